@@ -1,0 +1,66 @@
+-- What the measuring call yields: a refusal, or the seven numbers.
+use Prim.Native.Nat.{ℕ, suc, _+_, _*_, min}
+use mathlib.Core.Bool.{Bool, _&&_}
+use mathlib.Core.List.{List, [], _∷_, _++_}
+use lib.Dec.{ltb, eqb}
+use lib.IntN.{ℤ, pos}
+use lib.ListN.{length, getD}
+use Rattle.graph.specs.declared.Fault.{Fault}
+use Rattle.graph.specs.declared.Fault.the-variants.{LentLength, Price, OddSet, Uncovered}
+use Rattle.graph.specs.declared.Refusal.{Refusal}
+use Rattle.graph.specs.Refusal.{Outcome, yields, refuses, Test, once, each, passing}
+use Rattle.graph.specs.Graph.{Graph, vertices, priceInRange}
+use Rattle.graph.specs.Subgraph.{weightOf}
+use Rattle.graph.specs.Tests.{graphLengths, graphTests, boundTest, markTest, degreeTest}
+use Rattle.dual.specs.declared.Measures.{Measures}
+use Rattle.dual.specs.declared.MeasureAnswer.{MeasureAnswer}
+use Rattle.dual.specs.declared.MeasureAnswer.the-variants as MeasureAnswer
+use Rattle.dual.specs.Prices.{Prices, allPrices}
+use Rattle.dual.specs.Sets.{keepsRules}
+use Rattle.dual.specs.Gap.{covered, totalOf, gapOf, vertexSlack, setSlack, edgeSlack, coverSlack}
+
+-- The seven numbers of a subgraph measured against a price sheet.
+abbrev pub measures : Graph → List ℤ → List ℕ → Prices → Measures
+measures g bound x P = record {
+  weight = weightOf g x;
+  total = totalOf g bound P;
+  vertices = vertexSlack g bound x P;
+  sets = setSlack g bound x P;
+  edges = edgeSlack g x P;
+  cover = coverSlack g x P;
+  gap = gapOf g bound x P;
+}
+
+-- What is lent to the measuring call has just the lengths that n, m and the number of sets give (9).
+abbrev pub measureLengths : Graph → List ℤ → List ℕ → Prices → Bool
+measureLengths g bound x P =
+    graphLengths g && eqb (length bound) (vertices g) && eqb (length x) (g .edges)
+    && eqb (length (P .vertex)) (vertices g) && eqb (length (P .edge)) (g .edges) && eqb (length (P .set)) (P .sets)
+    && eqb (length (P .setVertices)) (2 * P .sets) && eqb (length (P .setEdges)) (16 * P .sets)
+
+-- Each price in range (13).
+abbrev pub priceTest : Prices → Test
+priceTest P = each Price (length (allPrices P)) (λ k. priceInRange (getD (allPrices P) k (pos 0)))
+
+-- Each odd set keeps the rules, and there are at most 16 (14): a 17th is refused at place 17.
+abbrev pub setTest : Graph → List ℤ → Prices → Test
+setTest g bound P = each OddSet (min (P .sets) 17) (λ s. ltb s 16 && keepsRules g bound P s)
+
+-- Each edge is covered (15).
+abbrev pub coverTest : Graph → Prices → Test
+coverTest g P = each Uncovered (g .edges) (covered g P)
+
+-- The tests of the measuring call, in their order.
+abbrev pub measureTests : Graph → List ℤ → List ℕ → Prices → List Test
+measureTests g bound x P =
+    once LentLength (measureLengths g bound x P)
+    ∷ (graphTests g ++ (boundTest g bound ∷ markTest g x ∷ degreeTest g bound x ∷ priceTest P ∷ setTest g bound P ∷ coverTest g P ∷ []))
+
+-- What the measuring call yields.
+unfoldable pub measure : Graph → List ℤ → List ℕ → Prices → Outcome Measures
+measure g bound x P = passing (measureTests g bound x P) (yields (measures g bound x P))
+
+-- What its answer says.
+abbrev pub measureSays : MeasureAnswer → Outcome Measures
+measureSays (MeasureAnswer.Measured m) = yields m
+measureSays (MeasureAnswer.Refused r) = refuses (r .fault) (r .place)

@@ -1,0 +1,4 @@
+pub mod Refusal
+pub mod Graph
+pub mod Subgraph
+pub mod Tests

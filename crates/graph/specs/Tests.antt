@@ -1,0 +1,50 @@
+-- The tests that calls make on a graph's numbers, on bounds and on a subgraph, in the order of document 01.
+use Prim.Native.Nat.{ℕ, _+_}
+use mathlib.Core.Bool.{Bool, true, false, not, _&&_}
+use mathlib.Core.List.{List, [], _∷_, _++_}
+use lib.Dec.{leb, eqb}
+use lib.IntN.{ℤ, pos}
+use lib.ListN.{length}
+use lib.Signed.{leZ}
+use Rattle.graph.specs.declared.Kind.{Kind}
+use Rattle.graph.specs.declared.Kind.the-variants.{Bipartite, General}
+use Rattle.graph.specs.declared.Fault.{Fault}
+use Rattle.graph.specs.declared.Fault.the-variants.{Sizes, Ends, Weight, SameEnds, LentLength, Bound, Mark, Degree, NotBipartite}
+use Rattle.graph.specs.Refusal.{Test, once, each}
+use Rattle.graph.specs.Graph.{Graph, vertices, rowAt, columnAt, weightAt, boundAt, sizesInRange, endsInRange, weightInRange, boundInRange, joined}
+use Rattle.graph.specs.Subgraph.{markAt, degree}
+
+-- The lent lengths (9): what is lent of the graph is as long as the number of edges passed.
+abbrev pub graphLengths : Graph → Bool
+graphLengths g = eqb (length (g .row)) (g .edges) && eqb (length (g .column)) (g .edges) && eqb (length (g .weight)) (g .edges)
+
+abbrev pub lengthTest : Bool → Test
+lengthTest b = once LentLength b
+
+-- The tests on a graph's numbers: sizes (4), ends (6), weights (7), and no edge with the ends of an earlier one (8).
+abbrev pub graphTests : Graph → List Test
+graphTests g =
+    once Sizes (sizesInRange (g .kind) (g .rows) (g .columns) (g .edges))
+    ∷ each Ends (g .edges) (λ e. endsInRange (g .kind) (g .rows) (g .columns) (rowAt g e) (columnAt g e))
+    ∷ each Weight (g .edges) (λ e. weightInRange (weightAt g e))
+    ∷ each SameEnds (g .edges) (λ e. not (joined g e (rowAt g e) (columnAt g e)))
+    ∷ []
+
+-- The bounds (10).
+abbrev pub boundTest : Graph → List ℤ → Test
+boundTest g bound = each Bound (vertices g) (λ v. boundInRange (boundAt bound v))
+
+-- The solver takes bipartite graphs only (16).
+abbrev pub isBipartite : Kind → Bool
+isBipartite Bipartite = true
+isBipartite General = false
+
+abbrev pub kindTest : Graph → Test
+kindTest g = once NotBipartite (isBipartite (g .kind))
+
+-- The marks (11), and the degrees (12).
+abbrev pub markTest : Graph → List ℕ → Test
+markTest g x = each Mark (g .edges) (λ e. leb (markAt x e) 1)
+
+abbrev pub degreeTest : Graph → List ℤ → List ℕ → Test
+degreeTest g bound x = each Degree (vertices g) (λ v. leZ (pos (degree g x v)) (boundAt bound v))

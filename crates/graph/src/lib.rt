@@ -1,0 +1,61 @@
+// The types that every call speaks of: kinds of graph, and refusals.
+ghost use mathlib.Core.Path.{_≡_};
+ghost use Rattle.graph.specs.Refusal.{numberOf};
+
+// The sort of sheet: two-sided, from row vertices to column vertices, or one-sided.
+pub enum Kind {
+    Bipartite,
+    General,
+}
+
+// What is refused, in the order of document 01's refusal table.
+pub enum Fault {
+    TextLength,
+    Header,
+    SizeLine,
+    Sizes,
+    LaterLine,
+    Ends,
+    Weight,
+    SameEnds,
+    LentLength,
+    Bound,
+    Mark,
+    Degree,
+    Price,
+    OddSet,
+    Uncovered,
+    NotBipartite,
+    Disagreement,
+}
+
+// A refusal: what is refused, and its place.
+pub struct Refusal {
+    pub fault: Fault,
+    pub place: u64,
+}
+
+// The number of a fault in document 01's refusal table.
+pub fn number(fault: Fault) -> u32
+    ensures { λ r. ⌜ r ≡ numberOf fault ⌝ }
+{
+    match fault {
+        Fault::TextLength => 1,
+        Fault::Header => 2,
+        Fault::SizeLine => 3,
+        Fault::Sizes => 4,
+        Fault::LaterLine => 5,
+        Fault::Ends => 6,
+        Fault::Weight => 7,
+        Fault::SameEnds => 8,
+        Fault::LentLength => 9,
+        Fault::Bound => 10,
+        Fault::Mark => 11,
+        Fault::Degree => 12,
+        Fault::Price => 13,
+        Fault::OddSet => 14,
+        Fault::Uncovered => 15,
+        Fault::NotBipartite => 16,
+        Fault::Disagreement => 17,
+    }
+}

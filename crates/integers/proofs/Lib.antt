@@ -1,0 +1,5 @@
+-- The laws of integers and of sums.
+pub mod Order
+pub mod Diff
+pub mod Total
+pub mod Sum

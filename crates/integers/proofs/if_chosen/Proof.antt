@@ -1,0 +1,23 @@
+-- `integers::if_chosen` meets its contract: once a number is the number, and no times it is 0.
+use mathlib.Core.Path.{_≡_, sym, _∙_, ap}
+use Prim.Native.Nat.{ℕ}
+use native.Mathlib.Omega.{arith}
+use lib.IntN.{pos, _*ℤ_}
+use mir.Syntax.{w64}
+use mir.ValLaws.{toZ-ofZ}
+use Rattle.integers.proofs.Order.{zero-times, one-times}
+use Rattle.integers.proofs.if_chosen.Statement.{statement}
+use Rattle.integers.proofs.if_chosen.Tie as tie
+
+returns : tie.Need-returns
+returns c =
+    simp (toZ-ofZ w64 (c .before .args .x) (c .before .fits .x))
+    (sym (ap (λ (k : ℕ). pos k *ℤ c .before .args .x) (c .if1 .taken) ∙ one-times (c .before .args .x)), omega arith)
+
+returns-2 : tie.Need-returns-2
+returns-2 c =
+    let none : c .before .args .mark ≡ 0 = omega (arith, c .before .pre, c .if1 .left) in
+    (sym (ap (λ (k : ℕ). pos k *ℤ c .before .args .x) none ∙ zero-times (c .before .args .x)), omega arith)
+
+pub if-chosen-spec : {M : Type 1} → statement M
+if-chosen-spec = tie.close (tie.spec returns returns-2)

@@ -1,0 +1,3 @@
+-- What the contracts speak of: the parts of an integer, and finite sums.
+pub mod Integer
+pub mod Sum

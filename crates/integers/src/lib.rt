@@ -1,0 +1,106 @@
+// The machine's signed arithmetic. Each function's contract gives its result as an integer.
+ghost use mathlib.Core.Path.{_≡_};
+ghost use Prim.Native.Nat.{_+_, _^_, _<_, _≤_};
+ghost use lib.ListN.{length, getD};
+ghost use lib.IntN.{pos, negℤ, _+ℤ_, _-ℤ_, _*ℤ_};
+ghost use lib.Signed.{_≤ℤ_, leZ, ltZ};
+ghost use Rattle.integers.specs.Integer.{up, dn, Within, between};
+
+// A number of 32 bits as one of 64.
+pub fn widen(x: i32) -> i64
+    ensures { λ r. ⌜ (r ≡ x) × Within (2 ^ 31) r ⌝ }
+{
+    x as i64
+}
+
+// A natural number of 32 bits as a signed one of 64.
+pub fn whole(x: u32) -> i64
+    ensures { λ r. ⌜ (r ≡ pos x) × Within (2 ^ 32) r ⌝ }
+{
+    x as i64
+}
+
+// The sum of two numbers that are not too large.
+pub fn add(a: i64, b: i64) -> i64
+    requires { ⌜ Within (2 ^ 61) a × Within (2 ^ 61) b ⌝ }
+    ensures { λ r. ⌜ r ≡ a +ℤ b ⌝ }
+{
+    a + b
+}
+
+// The difference of two numbers that are not too large.
+pub fn subtract(a: i64, b: i64) -> i64
+    requires { ⌜ Within (2 ^ 61) a × Within (2 ^ 61) b ⌝ }
+    ensures { λ r. ⌜ r ≡ a -ℤ b ⌝ }
+{
+    a - b
+}
+
+// A number with its sign changed.
+pub fn negate(a: i64) -> i64
+    requires { ⌜ Within (2 ^ 62) a ⌝ }
+    ensures { λ r. ⌜ r ≡ negℤ a ⌝ }
+{
+    -a
+}
+
+// A number taken a small count of times.
+pub fn scale(k: u32, x: i64) -> i64
+    requires { ⌜ (k ≤ 2 ^ 16) × Within (2 ^ 40) x ⌝ }
+    ensures { λ r. ⌜ r ≡ pos k *ℤ x ⌝ }
+{
+    k as i64 * x
+}
+
+// A number where the mark is 1, and 0 where it is 0.
+pub fn if_chosen(mark: u8, x: i64) -> i64
+    requires { ⌜ mark ≤ 1 ⌝ }
+    ensures { λ r. ⌜ (r ≡ pos mark *ℤ x) × Within (up x + dn x) r ⌝ }
+{
+    if mark == 1 { x } else { 0 }
+}
+
+// Whether a is less than b.
+pub fn less(a: i64, b: i64) -> bool
+    ensures { λ r. ⌜ r ≡ ltZ a b ⌝ }
+{
+    a < b
+}
+
+// Whether a is at most b.
+pub fn at_most(a: i64, b: i64) -> bool
+    ensures { λ r. ⌜ r ≡ leZ a b ⌝ }
+{
+    a <= b
+}
+
+// Whether x is at least low and at most high.
+pub fn in_range(x: i32, low: i32, high: i32) -> bool
+    ensures { λ r. ⌜ r ≡ between low high x ⌝ }
+{
+    low <= x && x <= high
+}
+
+// A number of 64 bits that is small enough, as one of 32.
+pub fn narrow(x: i64) -> i32
+    requires { ⌜ Within (2 ^ 30) x ⌝ }
+    ensures { λ r. ⌜ r ≡ x ⌝ }
+{
+    x as i32
+}
+
+// A number that is not negative, as a natural number.
+pub fn natural(x: i32) -> u32
+    requires { ⌜ pos 0 ≤ℤ x ⌝ }
+    ensures { λ r. ⌜ (pos r ≡ x) × (r ≡ up x) ⌝ }
+{
+    x as u32
+}
+
+// The element of w at p, as a number of 64 bits.
+pub fn element(w: &[i32], p: usize) -> i64
+    requires { ⌜ p < length (now w) ⌝ }
+    ensures { λ r. ⌜ (r ≡ getD (now (w .entry)) p (pos 0)) × Within (2 ^ 31) r ⌝ }
+{
+    widen(w[p])
+}

@@ -1,0 +1,68 @@
+-- The text of a graph (sheet), and what the graph reader yields.
+use Prim.Native.Nat.{ℕ}
+use mathlib.Core.Bool.{Bool, cond, _&&_}
+use mathlib.Core.List.{List, [], _∷_, _++_}
+use mathlib.Core.Option.{Option, none, some}
+use lib.Dec.{ltb, eqb}
+use lib.IntN.{ℤ}
+use lib.ListN.{length}
+use Rattle.graph.specs.declared.Kind.{Kind}
+use Rattle.graph.specs.declared.Kind.the-variants.{Bipartite, General}
+use Rattle.graph.specs.declared.Fault.{Fault}
+use Rattle.graph.specs.declared.Fault.the-variants.{TextLength, Header, SizeLine, Sizes, LaterLine, Ends, Weight, SameEnds, LentLength}
+use Rattle.graph.specs.Refusal.{Outcome, yields, refuses, once, passing}
+use Rattle.graph.specs.Graph.{Graph, sizesInRange, endsInRange, weightInRange, joined}
+use Rattle.layout.specs.Text.{bytes, words, natural, integer, threeWords, header, textFits}
+use Rattle.layout.specs.Lines.{Step, goes, stops, Layout, readText}
+
+-- Header: `%%MatrixMarket matrix coordinate integer general`, or `symmetric` for a general graph.
+abbrev pub graphHeader : List ℕ → Step Kind
+graphHeader l =
+    cond (header (bytes "matrix" ∷ bytes "coordinate" ∷ bytes "integer" ∷ bytes "general" ∷ []) l) (goes Bipartite)
+    (cond (header (bytes "matrix" ∷ bytes "coordinate" ∷ bytes "integer" ∷ bytes "symmetric" ∷ []) l) (goes General) (stops Header))
+
+-- The graph with no edge read yet, where m are to come.
+abbrev pub noEdges : Kind → ℕ → ℕ → ℕ → Graph
+noEdges kind rows columns m = record { kind = kind; rows = rows; columns = columns; edges = m; row = []; column = []; weight = [] }
+
+-- Size line: rows, columns, edges.
+abbrev pub graphSizes : Kind → Option (ℕ × ℕ × ℕ) → Step Graph
+graphSizes kind none = stops SizeLine
+graphSizes kind (some s) = cond (sizesInRange kind (s .0) (s .1) (s .2)) (goes (noEdges kind (s .0) (s .1) (s .2))) (stops Sizes)
+
+-- The graph with one edge more.
+abbrev pub withEdge : Graph → ℕ → ℕ → ℤ → Graph
+withEdge g r c w = record {
+  kind = g .kind;
+  rows = g .rows;
+  columns = g .columns;
+  edges = g .edges;
+  row = g .row ++ (r ∷ []);
+  column = g .column ++ (c ∷ []);
+  weight = g .weight ++ (w ∷ []);
+}
+
+-- Edge line: row, column, weight. Tested in this order: malformed, ends, weight, the ends of an earlier edge.
+abbrev pub graphEdge : Graph → Option (ℕ × ℕ × ℤ) → Step Graph
+graphEdge g none = stops LaterLine
+graphEdge g (some e) =
+    cond (endsInRange (g .kind) (g .rows) (g .columns) (e .0) (e .1))
+    (cond (weightInRange (e .2))
+    (cond (joined g (length (g .row)) (e .0) (e .1)) (stops SameEnds) (goes (withEdge g (e .0) (e .1) (e .2))))
+    (stops Weight))
+    (stops Ends)
+
+abbrev pub graphLayout : Layout Kind Graph Graph
+graphLayout = record {
+  headerLine = graphHeader;
+  sizeLine = λ kind l. graphSizes kind (threeWords natural natural natural (words l));
+  laterLine = λ g l. graphEdge g (threeWords natural natural integer (words l));
+  more = λ g. ltb (length (g .row)) (g .edges);
+  result = λ g. g;
+}
+
+-- What the graph reader yields of a text, where its three outputs have r, c and w numbers.
+unfoldable pub readGraph : ℕ → ℕ → ℕ → List ℕ → Outcome Graph
+readGraph r c w text =
+    passing (once LentLength (eqb r 1024 && eqb c 1024 && eqb w 1024) ∷ once TextLength (textFits text) ∷ [])
+    (readText graphLayout text)

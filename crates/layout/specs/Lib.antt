@@ -1,0 +1,6 @@
+pub mod Text
+pub mod Lines
+pub mod GraphText
+pub mod NumberText
+pub mod SubgraphText
+pub mod Answers

@@ -1,0 +1,55 @@
+-- The text of bounds (limits) or of prices, and what the number reader yields.
+use Prim.Native.Nat.{ℕ}
+use mathlib.Core.Bool.{Bool, cond, _&&_}
+use mathlib.Core.List.{List, [], _∷_, _++_}
+use mathlib.Core.Option.{Option, none, some}
+use lib.Dec.{ltb, eqb}
+use lib.IntN.{ℤ, pos}
+use lib.ListN.{length}
+use Rattle.integers.specs.Integer.{between}
+use Rattle.graph.specs.declared.Fault.{Fault}
+use Rattle.graph.specs.declared.Fault.the-variants.{TextLength, Header, SizeLine, Sizes, LaterLine, LentLength, Bound, Price}
+use Rattle.graph.specs.Refusal.{Outcome, yields, refuses, once, passing}
+use Rattle.graph.specs.Graph.{upTo, boundInRange, priceInRange}
+use Rattle.layout.specs.declared.Numbers.{Numbers}
+use Rattle.layout.specs.declared.Numbers.the-variants.{Bounds, Prices}
+use Rattle.layout.specs.Text.{bytes, words, natural, integer, oneWord, twoWords, header, textFits}
+use Rattle.layout.specs.Lines.{Step, goes, stops, Layout, readText}
+
+-- The range of each sort of number, and the fault outside it.
+abbrev pub inRange : Numbers → ℤ → Bool
+inRange Bounds z = boundInRange z
+inRange Prices z = priceInRange z
+
+abbrev pub outside : Numbers → Fault
+outside Bounds = Bound
+outside Prices = Price
+
+-- Header: `%%MatrixMarket matrix array integer general`.
+abbrev pub numberHeader : List ℕ → Step (Unit {0})
+numberHeader l = cond (header (bytes "matrix" ∷ bytes "array" ∷ bytes "integer" ∷ bytes "general" ∷ []) l) (goes tt) (stops Header)
+
+-- Size line: the count asked for, and 1.
+abbrev pub numberSizes : ℕ → Option (ℕ × ℕ) → Step (List ℤ)
+numberSizes count none = stops SizeLine
+numberSizes count (some s) = cond (eqb (s .0) count && eqb (s .1) 1) (goes []) (stops Sizes)
+
+-- Then one number a line.
+abbrev pub numberValue : Numbers → List ℤ → Option ℤ → Step (List ℤ)
+numberValue what zs none = stops LaterLine
+numberValue what zs (some z) = cond (inRange what z) (goes (zs ++ (z ∷ []))) (stops (outside what))
+
+abbrev pub numberLayout : Numbers → ℕ → Layout (Unit {0}) (List ℤ) (List ℤ)
+numberLayout what count = record {
+  headerLine = numberHeader;
+  sizeLine = λ h l. numberSizes count (twoWords natural natural (words l));
+  laterLine = λ zs l. numberValue what zs (oneWord integer (words l));
+  more = λ zs. ltb (length zs) count;
+  result = λ zs. zs;
+}
+
+-- What the number reader yields of a text, where count numbers of a sort are asked for and its output has n.
+unfoldable pub readNumbers : Numbers → ℕ → ℕ → List ℕ → Outcome (List ℤ)
+readNumbers what count n text =
+    passing (once LentLength (eqb n count) ∷ once Sizes (upTo 1152 count) ∷ once TextLength (textFits text) ∷ [])
+    (readText (numberLayout what count) text)

@@ -1,0 +1,107 @@
+-- The text of a subgraph (plan): what the subgraph reader yields, and what the writer writes.
+use Prim.Native.Nat.{ℕ, zero, suc, _+_}
+use mathlib.Core.Bool.{Bool, true, false, not, cond, _&&_}
+use mathlib.Core.List.{List, [], _∷_, _++_}
+use mathlib.Core.Option.{Option, none, some}
+use lib.Dec.{ltb, leb, eqb}
+use lib.ListN.{length, getD, set, replicate}
+use Rattle.integers.specs.Sum.{sum}
+use Rattle.graph.specs.declared.Kind.{Kind}
+use Rattle.graph.specs.declared.Kind.the-variants.{Bipartite, General}
+use Rattle.graph.specs.declared.Fault.{Fault}
+use Rattle.graph.specs.declared.Fault.the-variants.{TextLength, Header, SizeLine, Sizes, LaterLine, Ends, SameEnds, LentLength, Disagreement}
+use Rattle.graph.specs.Refusal.{Outcome, yields, refuses, Test, once, lowest, passing}
+use Rattle.graph.specs.Graph.{Graph, rowAt, columnAt, sizesInRange, endsInRange, joins}
+use Rattle.graph.specs.Subgraph.{markAt}
+use Rattle.graph.specs.Tests.{graphLengths, graphTests, markTest}
+use Rattle.layout.specs.Text.{bytes, words, natural, twoWords, threeWords, header, textFits, decimal, spaced, unlines}
+use Rattle.layout.specs.Lines.{Step, goes, stops, Layout, readText}
+
+-- Header: `%%MatrixMarket matrix coordinate pattern general`, or `symmetric` for a general graph. A kind that differs from the graph's is a disagreement.
+abbrev pub subgraphKind : List ℕ → Option Kind
+subgraphKind l =
+    cond (header (bytes "matrix" ∷ bytes "coordinate" ∷ bytes "pattern" ∷ bytes "general" ∷ []) l) (some Bipartite)
+    (cond (header (bytes "matrix" ∷ bytes "coordinate" ∷ bytes "pattern" ∷ bytes "symmetric" ∷ []) l) (some General) none)
+
+abbrev pub sameKind : Kind → Kind → Bool
+sameKind Bipartite Bipartite = true
+sameKind Bipartite General = false
+sameKind General Bipartite = false
+sameKind General General = true
+
+abbrev pub subgraphHeader : Graph → Option Kind → Step (Unit {0})
+subgraphHeader g none = stops Header
+subgraphHeader g (some kind) = cond (sameKind kind (g .kind)) (goes tt) (stops Disagreement)
+
+-- What has been read after the size line: how many chosen edges the text has, how many of them came, and the marks so far.
+pub record Marked : Type 0 where
+  pub count : ℕ
+  pub came : ℕ
+  pub marks : List ℕ
+
+-- Size line: the graph's rows and columns, and the number of chosen edges.
+abbrev pub subgraphSizes : Graph → Option (ℕ × ℕ × ℕ) → Step Marked
+subgraphSizes g none = stops SizeLine
+subgraphSizes g (some s) =
+    cond (sizesInRange (g .kind) (s .0) (s .1) (s .2))
+    (cond (eqb (s .0) (g .rows) && eqb (s .1) (g .columns) && leb (s .2) (g .edges))
+    (goes (record { count = s .2; came = 0; marks = replicate (g .edges) 0 }))
+    (stops Disagreement))
+    (stops Sizes)
+
+-- The edge with row r and column c, if the graph has one.
+abbrev pub edgeWith : Graph → ℕ → ℕ → Option ℕ
+edgeWith g r c = lowest (g .edges) (λ e. not (joins g r c e))
+
+-- The mark of the edge that a line names: it is in the graph, and no earlier line names it.
+abbrev pub subgraphMark : Marked → Option ℕ → Step Marked
+subgraphMark b none = stops Disagreement
+subgraphMark b (some e) =
+    cond (eqb (getD (b .marks) e 0) 0)
+    (goes (record { count = b .count; came = b .came + 1; marks = set (b .marks) e 1 }))
+    (stops SameEnds)
+
+-- Edge line: row and column of a chosen edge, in any order of edges.
+abbrev pub subgraphEdge : Graph → Marked → Option (ℕ × ℕ) → Step Marked
+subgraphEdge g b none = stops LaterLine
+subgraphEdge g b (some e) =
+    cond (endsInRange (g .kind) (g .rows) (g .columns) (e .0) (e .1)) (subgraphMark b (edgeWith g (e .0) (e .1))) (stops Ends)
+
+abbrev pub subgraphLayout : Graph → Layout (Unit {0}) Marked (List ℕ)
+subgraphLayout g = record {
+  headerLine = λ l. subgraphHeader g (subgraphKind l);
+  sizeLine = λ h l. subgraphSizes g (threeWords natural natural natural (words l));
+  laterLine = λ b l. subgraphEdge g b (twoWords natural natural (words l));
+  more = λ b. ltb (b .came) (b .count);
+  result = λ b. b .marks;
+}
+
+-- What the subgraph reader yields of a text for a graph, where its output has n marks.
+unfoldable pub readSubgraph : Graph → ℕ → List ℕ → Outcome (List ℕ)
+readSubgraph g n text =
+    passing (once LentLength (graphLengths g && eqb n (g .edges)) ∷ graphTests g)
+    (passing (once TextLength (textFits text) ∷ []) (readText (subgraphLayout g) text))
+
+-- The lines of the chosen edges among the first n, in the graph's order.
+unfoldable pub chosenLines : Graph → List ℕ → ℕ → List (List ℕ)
+chosenLines g x zero = []
+chosenLines g x (suc n) =
+    chosenLines g x n ++ cond (eqb (markAt x n) 1) (spaced (decimal (rowAt g n) ∷ decimal (columnAt g n) ∷ []) ∷ []) []
+
+abbrev pub headerText : Kind → List ℕ
+headerText Bipartite = bytes "%%MatrixMarket matrix coordinate pattern general"
+headerText General = bytes "%%MatrixMarket matrix coordinate pattern symmetric"
+
+-- The text that a subgraph is written as.
+unfoldable pub subgraphText : Graph → List ℕ → List ℕ
+subgraphText g x =
+    unlines
+    (headerText (g .kind)
+    ∷ spaced (decimal (g .rows) ∷ decimal (g .columns) ∷ decimal (sum (g .edges) (markAt x)) ∷ [])
+    ∷ chosenLines g x (g .edges))
+
+-- What the subgraph writer yields, where its output has n bytes.
+unfoldable pub writeSubgraph : Graph → List ℕ → ℕ → Outcome (List ℕ)
+writeSubgraph g x n =
+    passing (once LentLength (graphLengths g && eqb (length x) (g .edges) && eqb n 16384) ∷ graphTests g)
+    (passing (markTest g x ∷ []) (yields (subgraphText g x)))

@@ -1,0 +1,7 @@
+pub mod Passing
+pub mod Accepted
+pub mod Digits
+pub mod Pieces
+pub mod Fits
+pub mod Reaches
+pub mod ReadBack

@@ -1,0 +1,54 @@
+-- Reading lines from the top, a line at a time.
+use mathlib.Core.Path.{_≡_, sym, ap, _∙_}
+use mathlib.Core.Bool.{true, false}
+use mathlib.Core.List.{List, [], _∷_, _++_, append-assoc, append-nil}
+use Prim.Native.Nat.{ℕ, _+_}
+use native.Mathlib.Omega.{arith}
+use lib.ListN.{length, length-append}
+use Rattle.graph.specs.Refusal.{yields}
+use Rattle.layout.specs.Text.{lineFits, blankLine, commentLine}
+use Rattle.layout.specs.Lines.{Step, goes, State, start, sizing, reading, Layout, onLine, atEnd, onStep, readLines}
+
+module _ {H B R : Type 0} (L : Layout H B R) where
+  -- ---- what one line does
+
+  pub on-start : (l : List ℕ) (h : H) → lineFits l ≡ true → L .headerLine l ≡ goes h → onLine L start l ≡ goes (sizing h)
+  unfolding onLine
+  on-start l h fits is = rw (fits, is)
+
+  pub on-sizing : (h : H) (l : List ℕ) (b : B) → lineFits l ≡ true → blankLine l ≡ false → commentLine l ≡ false → L .sizeLine h l ≡ goes b
+      → onLine L (sizing h) l ≡ goes (reading b)
+  unfolding onLine
+  on-sizing h l b fits full plain is = rw (fits, full, plain, is)
+
+  pub on-reading : (b : B) (l : List ℕ) (c : B) → lineFits l ≡ true → blankLine l ≡ false → L .more b ≡ true → L .laterLine b l ≡ goes c
+      → onLine L (reading b) l ≡ goes (reading c)
+  unfolding onLine
+  on-reading b l c fits full more is = rw (fits, full, more, is)
+
+  pub at-end : (k : ℕ) (b : B) → L .more b ≡ false → readLines L k (reading b) [] ≡ yields (L .result b)
+  unfolding readLines atEnd
+  at-end k b h = rw h
+
+  -- ---- several lines
+
+  -- The lines ls lead from state s to state t.
+  abbrev pub Reaches : State H B → List (List ℕ) → State H B → Type 0
+  Reaches s ls t = (k : ℕ) (rest : List (List ℕ)) → readLines L k s (ls ++ rest) ≡ readLines L (k + length ls) t rest
+
+  pub reaches-none : (s : State H B) → Reaches s [] s
+  reaches-none s k rest = let e : k ≡ k + 0 = omega arith in ap (λ (j : ℕ). readLines L j s rest) e
+
+  pub reaches-one : (s t : State H B) (l : List ℕ) → onLine L s l ≡ goes t → Reaches s (l ∷ []) t
+  unfolding readLines
+  reaches-one s t l h k rest = ap (λ (o : Step (State H B)). onStep k o (λ u. readLines L (k + 1) u rest)) h
+
+  pub reaches-append : (s t u : State H B) (ks ls : List (List ℕ)) → Reaches s ks t → Reaches t ls u → Reaches s (ks ++ ls) u
+  reaches-append s t u ks ls f g k rest =
+      let e : k + length ks + length ls ≡ k + length (ks ++ ls) = omega (arith, length-append ks ls) in
+      ap (readLines L k s) (append-assoc ks ls rest) ∙ f k (ls ++ rest) ∙ g (k + length ks) rest ∙ ap (λ (j : ℕ). readLines L j u rest) e
+
+  -- Lines that lead to a state where none is to come give its result.
+  pub reaches-end : (s : State H B) (ls : List (List ℕ)) (b : B) (k : ℕ) → Reaches s ls (reading b) → L .more b ≡ false
+      → readLines L k s ls ≡ yields (L .result b)
+  reaches-end s ls b k f h = ap (readLines L k s) (sym (append-nil ls)) ∙ f k [] ∙ at-end (k + length ls) b h

@@ -1,0 +1,299 @@
+-- What the subgraph writer writes, the subgraph reader reads back: the same marks, for every graph and all marks that the writer accepts.
+use mathlib.Core.Path.{_≡_, refl, sym, ap, ap₂, _∙_}
+use mathlib.Core.Logic.{_≢_}
+use mathlib.Core.Bool.{Bool, true, false, not, cond, _&&_}
+use mathlib.Core.List.{List, [], _∷_, _++_, append-nil}
+use mathlib.Core.Option.{some}
+use Prim.Native.Nat.{ℕ, zero, suc, _+_, _-_, _^_, _≤_, _<_}
+use native.Mathlib.Omega.{arith}
+use lib.Dec.{ltb, leb, eqb}
+use borrow.Author.Tests.{eqb-true, eqb-false, eq-eqb, le-leb, lt-ltb, le-ltb}
+use lib.ListN.{length, take, getD, set, replicate}
+use lib.Seq.{take-suc, take-all, append-snoc, length-take-le, set-at, getD-at}
+use Rattle.integers.specs.Sum.{sum}
+use Rattle.integers.proofs.Sum.{sum-split}
+use Rattle.graph.specs.declared.Kind.{Kind}
+use Rattle.graph.specs.declared.Kind.the-variants.{Bipartite, General}
+use Rattle.graph.specs.declared.Fault.the-variants.{TextLength, LentLength, Ends, SameEnds, Sizes, Disagreement}
+use Rattle.graph.specs.Refusal.{Outcome, yields, once, passing}
+use Rattle.graph.specs.Graph.{Graph, rowAt, columnAt, joins}
+use Rattle.graph.specs.Subgraph.{markAt}
+use Rattle.graph.specs.Tests.{graphLengths, graphTests}
+use Rattle.layout.specs.Text.{newline, onFirst, pieces, nonEmpty, words, same, sameFolded, headerWords, header, natural, twoWords, threeWords, blankLine, lineFits, noWords, textFits, decimal, spaced, lines}
+use Rattle.layout.specs.Lines.{Step, goes, stops, start, sizing, reading, onLine, readLines, readText}
+use Rattle.layout.specs.SubgraphText.{subgraphKind, sameKind, subgraphHeader, Marked, subgraphSizes, edgeWith, subgraphMark, subgraphEdge, subgraphLayout, readSubgraph, chosenLines, headerText, subgraphText, writeSubgraph}
+use Rattle.readback.specs.Accepted.{Accepted}
+use Rattle.readback.proofs.Passing.{keeps-once, keeps-some, some-false, true-both, passing-all}
+use Rattle.readback.proofs.Accepted.{Small, small, accepted, text-is, lengths-kept, tests-kept, sizes-fewer}
+use Rattle.readback.proofs.Digits.{decimal-some, number-back}
+use Rattle.readback.proofs.Pieces.{Free, AllFree, all-free-append, lines-unlines, words-spaced, free-spaced, comment-free, decimal-no-newline, decimal-no-percent, decimal-no-blank, free-yes}
+use Rattle.readback.proofs.Fits.{count-le, edge-line-le, size-line-le, linesAt, chosen-none, chosen-more, text-le}
+use Rattle.readback.proofs.Reaches.{on-start, on-sizing, on-reading, Reaches, reaches-none, reaches-one, reaches-append, reaches-end}
+
+-- ---- lines of numbers
+
+two-words : (r c : ℕ) → words (spaced (decimal r ∷ decimal c ∷ [])) ≡ decimal r ∷ decimal c ∷ []
+two-words r c = words-spaced (decimal r ∷ decimal c ∷ []) (decimal-some r, decimal-no-blank r, (decimal-some c, decimal-no-blank c, tt))
+
+three-words : (r c n : ℕ) → words (spaced (decimal r ∷ decimal c ∷ decimal n ∷ [])) ≡ decimal r ∷ decimal c ∷ decimal n ∷ []
+three-words r c n =
+    words-spaced (decimal r ∷ decimal c ∷ decimal n ∷ [])
+    (decimal-some r, decimal-no-blank r, (decimal-some c, decimal-no-blank c, (decimal-some n, decimal-no-blank n, tt)))
+
+two-back : (r c : ℕ) → r < 10 ^ 9 → c < 10 ^ 9 → twoWords natural natural (words (spaced (decimal r ∷ decimal c ∷ []))) ≡ some (r, c)
+unfolding twoWords
+two-back r c h k = rw (two-words r c, number-back r h, number-back c k)
+
+three-back : (r c n : ℕ) → r < 10 ^ 9 → c < 10 ^ 9 → n < 10 ^ 9
+    → threeWords natural natural natural (words (spaced (decimal r ∷ decimal c ∷ decimal n ∷ []))) ≡ some (r, c, n)
+unfolding threeWords
+three-back r c n h k l = rw (three-words r c n, number-back r h, number-back c k, number-back n l)
+
+-- ---- the header
+
+same-kind : (k : Kind) → sameKind k k ≡ true
+same-kind Bipartite = refl
+same-kind General = refl
+
+header-back : (k : Kind) → subgraphKind (headerText k) ≡ some k
+unfolding header headerWords sameFolded same words nonEmpty pieces onFirst
+header-back Bipartite = refl
+header-back General = refl
+
+header-short : (k : Kind) → lineFits (headerText k) ≡ true
+header-short Bipartite = refl
+header-short General = refl
+
+header-free : (k : Kind) → Free newline (headerText k)
+header-free Bipartite = free-yes newline (headerText Bipartite) refl
+header-free General = free-yes newline (headerText General) refl
+
+-- ---- the marks so far
+
+-- The marks of the first n edges, and 0 for the others.
+abbrev marksTo : ℕ → List ℕ → ℕ → List ℕ
+marksTo m x n = take n x ++ replicate (m - n) 0
+
+module _ (m : ℕ) (x : List ℕ) (long : length x ≡ m) where
+  marks-none : replicate m 0 ≡ marksTo m x 0
+  marks-none = let e : m ≡ m - 0 = omega arith in ap (λ (k : ℕ). replicate k 0) e
+
+  marks-all : marksTo m x m ≡ x
+  marks-all =
+      let e : m - m ≡ 0 = omega arith in
+      let f : take m x ≡ x = take-all m x (omega arith) in
+      ap₂ (λ (l : List ℕ) (k : ℕ). l ++ replicate k 0) f e ∙ append-nil x
+
+  module _ (n : ℕ) (lt : n < m) where
+    marks-here : marksTo m x n ≡ take n x ++ (0 ∷ replicate (m - suc n) 0)
+    marks-here = let e : m - n ≡ suc (m - suc n) = omega arith in ap (λ (k : ℕ). take n x ++ replicate k 0) e
+
+    marks-next : (v : ℕ) → markAt x n ≡ v → marksTo m x (suc n) ≡ take n x ++ (v ∷ replicate (m - suc n) 0)
+    marks-next v e =
+        ap (λ (l : List ℕ). l ++ replicate (m - suc n) 0) (take-suc x n 0 (omega arith) ∙ ap (λ (w : ℕ). take n x ++ (w ∷ [])) e)
+        ∙ append-snoc (take n x) v (replicate (m - suc n) 0)
+
+    front : length (take n x) ≡ n
+    front = length-take-le n x (omega arith)
+
+    -- Not chosen: nothing changes. Chosen: the mark was 0 and is set.
+    marks-kept : markAt x n ≡ 0 → marksTo m x n ≡ marksTo m x (suc n)
+    marks-kept e = marks-here ∙ sym (marks-next 0 e)
+
+    marks-clear : getD (marksTo m x n) n 0 ≡ 0
+    marks-clear = ap (λ (l : List ℕ). getD l n 0) marks-here ∙ getD-at (take n x) 0 (replicate (m - suc n) 0) 0 n front
+
+    marks-set : markAt x n ≡ 1 → set (marksTo m x n) n 1 ≡ marksTo m x (suc n)
+    marks-set e =
+        ap (λ (l : List ℕ). set l n 1) marks-here ∙ set-at (take n x) 0 (replicate (m - suc n) 0) 1 n front ∙ sym (marks-next 1 e)
+
+-- ---- the edge that a line names
+
+-- No two edges have the same ends, so an edge is found by its own.
+edge-found : {g : Graph} {x : List ℕ} → Accepted g x → (n : ℕ) → n < g .edges → edgeWith g (rowAt g n) (columnAt g n) ≡ some n
+edge-found {g} a n l =
+    keeps-some (g .edges) (λ e. not (joins g (rowAt g n) (columnAt g n) e)) n l
+    (λ k m. ap not (some-false n (joins g (rowAt g n) (columnAt g n)) (a .apart n l) k m))
+    (ap not (true-both (eq-eqb (rowAt g n) (rowAt g n) refl) (eq-eqb (columnAt g n) (columnAt g n) refl)))
+
+-- ---- the lines of the chosen edges
+
+-- The count of the chosen edges, and how far reading is after the first n edges.
+abbrev countOf : Graph → List ℕ → ℕ
+countOf g x = sum (g .edges) (markAt x)
+
+abbrev marked : ℕ → ℕ → List ℕ → Marked
+marked count came marks = record { count = count; came = came; marks = marks }
+
+abbrev stateAt : Graph → List ℕ → ℕ → Marked
+stateAt g x n = marked (countOf g x) (sum n (markAt x)) (marksTo (g .edges) x n)
+
+-- The marks of fewer edges add up to no more.
+sum-prefix : (f : ℕ → ℕ) (n m : ℕ) → n ≤ m → sum n f ≤ sum m f
+sum-prefix f n m h = let e : m ≡ n + (m - n) = omega arith in omega (arith, ap (λ (k : ℕ). sum k f) e, sum-split n (m - n) f)
+
+module _ {g : Graph} {x : List ℕ} (a : Accepted g x) where
+  S : Small g
+  S = small (a .writable)
+
+  count-few : countOf g x ≤ 1024
+  count-few = omega (arith, S .edges-few, count-le (a .writable))
+
+  module _ (n : ℕ) (l : n < g .edges) where
+    abbrev lineAt : List ℕ
+    lineAt = spaced (decimal (rowAt g n) ∷ decimal (columnAt g n) ∷ [])
+
+    line-fits : lineFits lineAt ≡ true
+    line-fits =
+        le-leb (length lineAt) 1024
+        (omega (arith, edge-line-le (rowAt g n) (columnAt g n) (S .row-small n l) (S .column-small n l)))
+
+    line-full : blankLine lineAt ≡ false
+    line-full = ap noWords (two-words (rowAt g n) (columnAt g n))
+
+    module _ (chosen : markAt x n ≡ 1) where
+      more-to-come : ltb (sum n (markAt x)) (countOf g x) ≡ true
+      more-to-come = lt-ltb (sum n (markAt x)) (countOf g x) (omega (arith, sum-prefix (markAt x) (suc n) (g .edges) l))
+
+      line-read : subgraphEdge g (stateAt g x n) (twoWords natural natural (words lineAt)) ≡ goes (stateAt g x (suc n))
+      line-read =
+          ap (subgraphEdge g (stateAt g x n))
+          (two-back (rowAt g n) (columnAt g n) (omega (arith, S .row-small n l)) (omega (arith, S .column-small n l)))
+          ∙ ap (λ (t : Bool). cond t (subgraphMark (stateAt g x n) (edgeWith g (rowAt g n) (columnAt g n))) (stops Ends)) (a .writable .ends n l)
+          ∙ ap (subgraphMark (stateAt g x n)) (edge-found a n l)
+          ∙ ap (λ (t : Bool). cond t (goes (marked (countOf g x) (sum n (markAt x) + 1) (set (marksTo (g .edges) x n) n 1))) (stops SameEnds))
+          (eq-eqb (getD (marksTo (g .edges) x n) n 0) 0 (marks-clear (g .edges) x (a .writable .marks-long) n l))
+          ∙ ap₂ (λ (k : ℕ) (ms : List ℕ). goes (marked (countOf g x) (sum n (markAt x) + k) ms)) (sym chosen)
+          (marks-set (g .edges) x (a .writable .marks-long) n l chosen)
+
+      chosen-step : onLine (subgraphLayout g) (reading (stateAt g x n)) lineAt ≡ goes (reading (stateAt g x (suc n)))
+      chosen-step = on-reading (subgraphLayout g) (stateAt g x n) lineAt (stateAt g x (suc n)) line-fits line-full more-to-come line-read
+
+    unchosen-step : markAt x n ≡ 0 → stateAt g x n ≡ stateAt g x (suc n)
+    unchosen-step e =
+        let s : sum n (markAt x) ≡ sum n (markAt x) + markAt x n = omega arith in
+        ap₂ (λ (k : ℕ) (ms : List ℕ). marked (countOf g x) k ms) s (marks-kept (g .edges) x (a .writable .marks-long) n l e)
+
+    step-at : Reaches (subgraphLayout g) (reading (stateAt g x n)) (linesAt g x n) (reading (stateAt g x (suc n)))
+    step-at = go (eqb (markAt x n) 1) refl
+      where
+        go : (b : Bool) → eqb (markAt x n) 1 ≡ b
+            → Reaches (subgraphLayout g) (reading (stateAt g x n)) (cond b (spaced (decimal (rowAt g n) ∷ decimal (columnAt g n) ∷ []) ∷ []) [])
+            (reading (stateAt g x (suc n)))
+        go true is =
+            reaches-one (subgraphLayout g) (reading (stateAt g x n)) (reading (stateAt g x (suc n))) lineAt
+            (chosen-step (eqb-true (markAt x n) 1 is))
+        go false is =
+            let ne : markAt x n ≢ 1 = eqb-false (markAt x n) 1 is in
+            let z : markAt x n ≡ 0 = omega (arith, a .writable .marks n l) in
+            rw (unchosen-step z) (reaches-none (subgraphLayout g) (reading (stateAt g x (suc n))))
+
+  lines-read : (n : ℕ) → n ≤ g .edges → Reaches (subgraphLayout g) (reading (stateAt g x 0)) (chosenLines g x n) (reading (stateAt g x n))
+  lines-read zero l = rw (chosen-none g x) (reaches-none (subgraphLayout g) (reading (stateAt g x 0)))
+  lines-read (suc n) l =
+      rw (chosen-more g x n)
+      (reaches-append (subgraphLayout g) (reading (stateAt g x 0)) (reading (stateAt g x n)) (reading (stateAt g x (suc n))) (chosenLines g x n)
+      (linesAt g x n) (lines-read n (omega arith)) (step-at n l))
+
+  -- ---- the header line and the size line
+
+  abbrev sizeLine : List ℕ
+  sizeLine = spaced (decimal (g .rows) ∷ decimal (g .columns) ∷ decimal (countOf g x) ∷ [])
+
+  header-step : onLine (subgraphLayout g) start (headerText (g .kind)) ≡ goes (sizing tt)
+  header-step =
+      on-start (subgraphLayout g) (headerText (g .kind)) tt (header-short (g .kind))
+      (ap (subgraphHeader g) (header-back (g .kind)) ∙ ap (λ (t : Bool). cond t (goes tt) (stops Disagreement)) (same-kind (g .kind)))
+
+  abbrev sizesRead : Step Marked
+  sizesRead = goes (marked (countOf g x) 0 (replicate (g .edges) 0))
+
+  abbrev agrees : Bool
+  agrees = eqb (g .rows) (g .rows) && eqb (g .columns) (g .columns) && leb (countOf g x) (g .edges)
+
+  size-read : subgraphSizes g (threeWords natural natural natural (words sizeLine)) ≡ goes (stateAt g x 0)
+  size-read =
+      ap (subgraphSizes g)
+      (three-back (g .rows) (g .columns) (countOf g x) (omega (arith, S .rows-small)) (omega (arith, S .columns-small)) (omega (arith, count-few)))
+      ∙ ap (λ (t : Bool). cond t (cond agrees sizesRead (stops Disagreement)) (stops Sizes))
+      (sizes-fewer (g .kind) (g .rows) (g .columns) (g .edges) (countOf g x) (a .writable .sizes) (count-le (a .writable)))
+      ∙ ap (λ (t : Bool). cond t sizesRead (stops Disagreement))
+      (true-both
+      (true-both (eq-eqb (g .rows) (g .rows) refl) (eq-eqb (g .columns) (g .columns) refl))
+      (le-leb (countOf g x) (g .edges) (count-le (a .writable))))
+      ∙ ap (λ (ms : List ℕ). goes (marked (countOf g x) 0 ms)) (marks-none (g .edges) x (a .writable .marks-long))
+
+  size-step : onLine (subgraphLayout g) (sizing tt) sizeLine ≡ goes (reading (stateAt g x 0))
+  size-step =
+      on-sizing (subgraphLayout g) tt sizeLine (stateAt g x 0)
+      (le-leb (length sizeLine) 1024
+      (omega (arith, size-line-le (g .rows) (g .columns) (countOf g x) (S .rows-small) (S .columns-small) count-few)))
+      (ap noWords (three-words (g .rows) (g .columns) (countOf g x)))
+      (comment-free sizeLine
+      (free-spaced (λ b. eqb b 37) (decimal (g .rows) ∷ decimal (g .columns) ∷ decimal (countOf g x) ∷ []) refl
+      (decimal-no-percent (g .rows), (decimal-no-percent (g .columns), (decimal-no-percent (countOf g x), tt)))))
+      size-read
+
+  -- ---- the whole text
+
+  abbrev textLines : List (List ℕ)
+  textLines = headerText (g .kind) ∷ sizeLine ∷ chosenLines g x (g .edges)
+
+  all-read : readLines (subgraphLayout g) 1 start textLines ≡ yields x
+  all-read =
+      reaches-end (subgraphLayout g) start textLines (stateAt g x (g .edges)) 1
+      (reaches-append (subgraphLayout g) start (sizing tt) (reading (stateAt g x (g .edges))) (headerText (g .kind) ∷ []) (sizeLine ∷ chosenLines g x (g .edges))
+      (reaches-one (subgraphLayout g) start (sizing tt) (headerText (g .kind)) header-step)
+      (reaches-append (subgraphLayout g) (sizing tt) (reading (stateAt g x 0)) (reading (stateAt g x (g .edges))) (sizeLine ∷ []) (chosenLines g x (g .edges))
+      (reaches-one (subgraphLayout g) (sizing tt) (reading (stateAt g x 0)) sizeLine size-step)
+      (lines-read (g .edges) (omega arith))))
+      (le-ltb (countOf g x) (countOf g x) (omega arith))
+      ∙ ap yields (marks-all (g .edges) x (a .writable .marks-long))
+
+  chosen-free : (n : ℕ) → AllFree newline (chosenLines g x n)
+  chosen-free zero = rw (chosen-none g x) tt
+  chosen-free (suc n) = rw (chosen-more g x n) (all-free-append newline (chosenLines g x n) (linesAt g x n) (chosen-free n) (go (eqb (markAt x n) 1)))
+    where
+      go : (b : Bool) → AllFree newline (cond b (spaced (decimal (rowAt g n) ∷ decimal (columnAt g n) ∷ []) ∷ []) [])
+      go true =
+          (free-spaced newline (decimal (rowAt g n) ∷ decimal (columnAt g n) ∷ []) refl (decimal-no-newline (rowAt g n), (decimal-no-newline (columnAt g n), tt)), tt)
+      go false = tt
+
+  lines-of-text : lines (subgraphText g x) ≡ textLines
+  unfolding subgraphText
+  lines-of-text =
+      lines-unlines textLines (
+        header-free (g .kind),
+        (
+          free-spaced newline (decimal (g .rows) ∷ decimal (g .columns) ∷ decimal (countOf g x) ∷ []) refl
+              (decimal-no-newline (g .rows), (decimal-no-newline (g .columns), (decimal-no-newline (countOf g x), tt))),
+          chosen-free (g .edges),
+        ),
+      )
+
+  -- The text of marks reads as those marks.
+  pub text-back : readSubgraph g (length x) (subgraphText g x) ≡ yields x
+  unfolding readSubgraph
+  text-back =
+      passing-all (once LentLength (graphLengths g && eqb (length x) (g .edges)) ∷ graphTests g)
+      (passing (once TextLength (textFits (subgraphText g x)) ∷ []) (readText (subgraphLayout g) (subgraphText g x))) (
+        keeps-once LentLength (graphLengths g && eqb (length x) (g .edges)) (true-both (lengths-kept a) (eq-eqb (length x) (g .edges) (a .writable .marks-long))),
+        tests-kept a,
+      )
+      ∙ passing-all (once TextLength (textFits (subgraphText g x)) ∷ []) (readText (subgraphLayout g) (subgraphText g x))
+      (keeps-once TextLength (textFits (subgraphText g x)) (le-leb (length (subgraphText g x)) 32768 (omega (arith, text-le (a .writable)))), tt)
+      ∙ ap (readLines (subgraphLayout g) 1 start) lines-of-text ∙ all-read
+
+-- ---- the two promises
+
+-- Reading a text that the writer yields, as a subgraph of the same graph, gives exactly the marks that were written.
+pub read-back : (g : Graph) (x : List ℕ) (n : ℕ) (text : List ℕ) → writeSubgraph g x n ≡ yields text → readSubgraph g (length x) text ≡ yields x
+read-back g x n text h = ap (readSubgraph g (length x)) (sym (text-is g x n text h)) ∙ text-back (accepted g x n text h)
+
+-- Two different subgraphs of a graph are never written alike.
+pub written-apart : (g : Graph) (x y : List ℕ) (n k : ℕ) (text : List ℕ) → writeSubgraph g x n ≡ yields text → writeSubgraph g y k ≡ yields text → x ≡ y
+written-apart g x y n k text h j =
+    let e : length x ≡ length y = omega (arith, accepted g x n text h .writable .marks-long, accepted g y k text j .writable .marks-long) in
+    let q : _≡_ {A = Outcome (List ℕ)} (yields x) (yields y) =
+    sym (read-back g x n text h) ∙ ap (λ (m : ℕ). readSubgraph g m text) e ∙ read-back g y k text j in
+    cc

@@ -1,0 +1,1 @@
+// No code: the proofs here show that a subgraph which is written reads back as itself.

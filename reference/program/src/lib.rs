@@ -1,0 +1,29 @@
+//! The separately written program of document 01, "The crossing sheet, its
+//! plans and its prices".
+//!
+//! It uses the field's words. Each definition says which word of document 01
+//! it is.
+
+#![forbid(unsafe_code)]
+#![warn(missing_docs)]
+
+pub mod brute;
+pub mod graph;
+pub mod measure;
+pub mod programs;
+pub mod random;
+pub mod read;
+pub mod refusal;
+pub mod solve;
+pub mod text;
+pub mod write;
+
+pub use brute::{feasible_subgraphs, largest_weight, FeasibleSubgraphs};
+pub use graph::{Graph, Head, Kind, OwnedGraph};
+pub use measure::{measure, Measures};
+pub use programs::{mark_output, solve_output, Files};
+pub use random::{random_graph, Random};
+pub use read::{read_graph, read_numbers, read_subgraph, What};
+pub use refusal::Refusal;
+pub use solve::solve;
+pub use write::write_subgraph;

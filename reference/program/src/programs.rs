@@ -1,0 +1,155 @@
+//! What the programs `solve` and `mark` print.
+
+use crate::graph::{Graph, Head, Kind, MOST_EDGES};
+use crate::measure::measure;
+use crate::read::{read_graph, read_numbers, read_subgraph, What};
+use crate::refusal::Refusal;
+use crate::solve::{solve, WORKSPACE};
+use crate::write::{write_subgraph, PLAN_TEXT};
+
+/// The files of the two programs; an absent one is `None`.
+#[derive(Clone, Copy, Debug, Default)]
+pub struct Files<'a> {
+    /// The graph (sheet.mtx).
+    pub graph: Option<&'a [u8]>,
+    /// The bounds (limits.mtx).
+    pub bounds: Option<&'a [u8]>,
+    /// The subgraph (plan.mtx), read by `mark`.
+    pub subgraph: Option<&'a [u8]>,
+    /// The prices (prices.mtx), read by `mark`.
+    pub prices: Option<&'a [u8]>,
+}
+
+/// A refusal and where it comes from.
+struct Refused {
+    refusal: Refusal,
+    from: &'static str,
+}
+
+/// Names where a refusal comes from.
+fn from(from: &'static str) -> impl Fn(Refusal) -> Refused {
+    move |refusal| Refused { refusal, from }
+}
+
+/// The bytes to print: a result or the line of a refusal.
+fn printed(result: Result<Vec<u8>, Refused>) -> Vec<u8> {
+    match result {
+        Ok(bytes) => bytes,
+        Err(Refused {
+            refusal: Refusal { number, place },
+            from,
+        }) => format!("refused {number} at {place} in {from}\n").into_bytes(),
+    }
+}
+
+/// A graph, its bounds and the arrays that hold them.
+struct Input {
+    head: Head,
+    row: Vec<u32>,
+    column: Vec<u32>,
+    weight: Vec<i32>,
+    bound: Vec<i32>,
+}
+
+impl Input {
+    /// Reads sheet.mtx and limits.mtx.
+    fn read(files: &Files) -> Result<Input, Refused> {
+        let lent = MOST_EDGES as usize;
+        let (mut row, mut column, mut weight) = (vec![0; lent], vec![0; lent], vec![0; lent]);
+        let text = files.graph.unwrap_or_default();
+        let head =
+            read_graph(text, &mut row, &mut column, &mut weight).map_err(from("sheet.mtx"))?;
+        let count = match head.kind {
+            Kind::Bipartite => head.rows + head.columns,
+            Kind::General => head.rows,
+        };
+        let mut bound = vec![0; count as usize];
+        let text = files.bounds.unwrap_or_default();
+        read_numbers(text, count, What::Bounds, &mut bound).map_err(from("limits.mtx"))?;
+        Ok(Input {
+            head,
+            row,
+            column,
+            weight,
+            bound,
+        })
+    }
+
+    /// The graph as lent to a call.
+    fn graph(&self) -> Graph<'_> {
+        let m = self.head.edges as usize;
+        Graph {
+            kind: self.head.kind,
+            rows: self.head.rows,
+            columns: self.head.columns,
+            edges: self.head.edges,
+            row: &self.row[..m],
+            column: &self.column[..m],
+            weight: &self.weight[..m],
+        }
+    }
+}
+
+/// What `solve` prints.
+pub fn solve_output(files: &Files) -> Vec<u8> {
+    printed(solve_files(files))
+}
+
+/// What `mark` prints.
+pub fn mark_output(files: &Files) -> Vec<u8> {
+    printed(mark_files(files))
+}
+
+/// The plan that `solve` prints, or its refusal.
+fn solve_files(files: &Files) -> Result<Vec<u8>, Refused> {
+    let input = Input::read(files)?;
+    let graph = input.graph();
+    let (n, m) = (input.bound.len(), graph.row.len());
+    let mut chosen = vec![0; m];
+    let (mut vertex_price, mut edge_price) = (vec![0; n], vec![0; m]);
+    let mut workspace = vec![0; WORKSPACE];
+    solve(
+        &graph,
+        &input.bound,
+        &mut chosen,
+        &mut vertex_price,
+        &mut edge_price,
+        &mut workspace,
+    )
+    .map_err(from("input"))?;
+    let mut out = vec![0; PLAN_TEXT];
+    let length = write_subgraph(&graph, &chosen, &mut out).map_err(from("input"))?;
+    out.truncate(length);
+    Ok(out)
+}
+
+/// The line that `mark` prints, or its refusal.
+fn mark_files(files: &Files) -> Result<Vec<u8>, Refused> {
+    let input = Input::read(files)?;
+    let graph = input.graph();
+    let (n, m) = (input.bound.len(), graph.row.len());
+    let mut chosen = vec![0; m];
+    let text = files.subgraph.unwrap_or_default();
+    read_subgraph(text, &graph, &mut chosen).map_err(from("plan.mtx"))?;
+    let mut price = vec![0; n + m];
+    let text = files.prices.unwrap_or_default();
+    read_numbers(text, (n + m) as u32, What::Prices, &mut price).map_err(from("prices.mtx"))?;
+    let (vertex_price, edge_price) = price.split_at(n);
+    let found = measure(
+        &graph,
+        &input.bound,
+        &chosen,
+        vertex_price,
+        edge_price,
+        0,
+        &[],
+        &[],
+        &[],
+    )
+    .map_err(from("input"))?;
+    let line = format!(
+        "merit {} total {} fish {} groups {} pairs {} cover {} gap {}\n",
+        found.weight, found.total, found.vertices, found.sets, found.edges, found.cover, found.gap
+    );
+    Ok(line.into_bytes())
+}

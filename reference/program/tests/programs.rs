@@ -1,0 +1,197 @@
+//! What `solve` and `mark` print.
+
+mod common;
+use common::*;
+use reference::*;
+
+const SHEET: &[u8] = b"%%MatrixMarket matrix coordinate integer general
+2 2 4
+1 1 5
+1 2 4
+2 1 4
+2 2 1
+";
+
+const PLAN: &[u8] = b"%%MatrixMarket matrix coordinate pattern general
+2 2 2
+1 2
+2 1
+";
+
+const LIMITS: &[u8] = b"%%MatrixMarket matrix array integer general
+4 1
+1
+1
+1
+1
+";
+
+/// The files of case 3.
+fn case_3(plan: &'static [u8], prices: &'static [u8]) -> Files<'static> {
+    Files {
+        graph: Some(SHEET),
+        bounds: Some(LIMITS),
+        subgraph: Some(plan),
+        prices: Some(prices),
+    }
+}
+
+const PLAN_1_4: &[u8] = b"%%MatrixMarket matrix coordinate pattern general
+2 2 2
+1 1
+2 2
+";
+
+const PRICES: &[u8] = b"%%MatrixMarket matrix array integer general
+8 1
+2
+1
+3
+2
+0
+0
+0
+0
+";
+
+fn solve_prints(files: &Files) -> String {
+    String::from_utf8(solve_output(files)).unwrap()
+}
+
+fn mark_prints(files: &Files) -> String {
+    String::from_utf8(mark_output(files)).unwrap()
+}
+
+#[test]
+fn worked_example_of_solve() {
+    let files = Files {
+        graph: Some(SHEET),
+        bounds: Some(LIMITS),
+        ..Files::default()
+    };
+    assert_eq!(solve_output(&files), PLAN);
+}
+
+#[test]
+fn worked_example_of_mark() {
+    assert_eq!(
+        mark_output(&case_3(PLAN_1_4, PRICES)),
+        b"merit 6 total 8 fish 0 groups 0 pairs 0 cover 2 gap 2\n"
+    );
+    // The best plan with the same prices.
+    assert_eq!(
+        mark_output(&case_3(PLAN, PRICES)),
+        b"merit 8 total 8 fish 0 groups 0 pairs 0 cover 0 gap 0\n"
+    );
+}
+
+#[test]
+fn a_general_graph_is_marked_and_not_solved() {
+    // Case 7, with merits of -1 on the third pair to show a negative merit.
+    let files = Files {
+        graph: Some(
+            b"%%MatrixMarket matrix coordinate integer symmetric\n3 3 3\n2 1 1\n3 1 1\n3 2 -1\n",
+        ),
+        bounds: Some(b"%%MatrixMarket matrix array integer general\n3 1\n1\n1\n1\n"),
+        subgraph: Some(b"%%MatrixMarket matrix coordinate pattern symmetric\n3 3 1\n3 2\n"),
+        prices: Some(b"%%MatrixMarket matrix array integer general\n6 1\n1\n1\n0\n0\n4\n0\n"),
+    };
+    // total 1 + 1 + 4; fish 1 has price 1 and is unused; pair 2 is not chosen;
+    // pair 3 costs 1 and has merit -1.
+    assert_eq!(
+        mark_prints(&files),
+        "merit -1 total 6 fish 1 groups 0 pairs 4 cover 2 gap 7\n"
+    );
+    assert_eq!(solve_prints(&files), "refused 16 at 0 in input\n");
+}
+
+#[test]
+fn absent_files_are_empty_texts() {
+    let mut files = Files::default();
+    let absent = |name: &str| format!("refused 2 at 1 in {name}\n");
+    assert_eq!(solve_prints(&files), absent("sheet.mtx"));
+    assert_eq!(mark_prints(&files), absent("sheet.mtx"));
+    files.graph = Some(SHEET);
+    assert_eq!(solve_prints(&files), absent("limits.mtx"));
+    assert_eq!(mark_prints(&files), absent("limits.mtx"));
+    files.bounds = Some(LIMITS);
+    assert_eq!(solve_prints(&files).as_bytes(), PLAN);
+    assert_eq!(mark_prints(&files), absent("plan.mtx"));
+    files.subgraph = Some(PLAN);
+    assert_eq!(mark_prints(&files), absent("prices.mtx"));
+    files.prices = Some(b"");
+    assert_eq!(mark_prints(&files), absent("prices.mtx"));
+    files.prices = Some(PRICES);
+    assert!(mark_prints(&files).ends_with(" gap 0\n"));
+}
+
+#[test]
+fn refusals_are_printed_with_their_file() {
+    let right = case_3(PLAN_1_4, PRICES);
+    let long = vec![b' '; 32_769];
+    let bounds = numbers("4 1\n1\n65\n1\n1\n");
+    let prices = numbers("8 1\n2\n1\n3\n-1\n0\n0\n0\n0\n");
+    let two_edges_of_1 = plan("general", "2 2 2\n1 1\n1 2\n");
+    for (files, expected) in [
+        (
+            Files {
+                graph: Some(&long),
+                ..right
+            },
+            "refused 1 at 0 in sheet.mtx\n",
+        ),
+        (
+            Files {
+                bounds: Some(&bounds),
+                prices: Some(&long),
+                ..right
+            },
+            "refused 10 at 4 in limits.mtx\n",
+        ),
+        (
+            Files {
+                subgraph: Some(SHEET),
+                prices: Some(&long),
+                ..right
+            },
+            "refused 2 at 1 in plan.mtx\n",
+        ),
+        (
+            // Read before the plan is found over a limit.
+            Files {
+                subgraph: Some(&two_edges_of_1),
+                prices: Some(&prices),
+                ..right
+            },
+            "refused 13 at 6 in prices.mtx\n",
+        ),
+        (
+            Files {
+                subgraph: Some(&two_edges_of_1),
+                ..right
+            },
+            "refused 12 at 1 in input\n",
+        ),
+        (
+            Files {
+                prices: Some(LIMITS),
+                ..right
+            },
+            "refused 4 at 2 in prices.mtx\n",
+        ),
+    ] {
+        assert_eq!(mark_prints(&files), expected);
+    }
+    // Prices that leave pair 1 uncovered.
+    let prices = numbers("8 1\n2\n1\n2\n2\n0\n0\n0\n0\n");
+    let files = Files {
+        prices: Some(&prices),
+        ..right
+    };
+    assert_eq!(mark_prints(&files), "refused 15 at 1 in input\n");
+    let files = Files {
+        bounds: Some(&bounds),
+        ..right
+    };
+    assert_eq!(solve_prints(&files), "refused 10 at 4 in limits.mtx\n");
+}
