@@ -21,32 +21,21 @@ use Rattle.readback.proofs.Passing.{both-true, true-both, once-keeps, k
 -- ---- what a text is yielded for
 
 module _ (g : Graph) (x : List ℕ) (n : ℕ) where
-  abbrev first : List Test
-  first = once LentLength (graphLengths g && eqb (length x) (g .edges) && eqb n 16384) ∷ graphTests g
+  -- The writer's tests before that of the marks, and what follows them.
+  abbrev pub numberTests : List Test
+  numberTests = once LentLength (graphLengths g && eqb (length x) (g .edges) && eqb n 16384) ∷ graphTests g
 
-  abbrev second : Outcome (List ℕ)
-  second = passing (markTest g x ∷ []) (yields (subgraphText g x))
+  abbrev pub afterwards : Outcome (List ℕ)
+  afterwards = passing (markTest g x ∷ []) (yields (subgraphText g x))
 
-  writes : writeSubgraph g x n ≡ passing first second
+  pub writes : writeSubgraph g x n ≡ passing numberTests afterwards
   unfolding writeSubgraph
   writes = refl
 
-  module _ (text : List ℕ) (h : writeSubgraph g x n ≡ yields text) where
-    first-kept : AllKeep first
-    first-kept = passing-kept first second text (sym writes ∙ h)
-
-    second-kept : AllKeep (markTest g x ∷ [])
-    second-kept = passing-kept (markTest g x ∷ []) (yields (subgraphText g x)) text (passing-yields first second text (sym writes ∙ h))
-
-    -- The text that is yielded is that of the marks.
-    pub text-is : subgraphText g x ≡ text
-    text-is =
-        let e : _≡_ {A = Outcome (List ℕ)} (yields (subgraphText g x)) (yields text) =
-        passing-yields (markTest g x ∷ []) (yields (subgraphText g x)) text (passing-yields first second text (sym writes ∙ h)) in
-        cc
-
+  -- Tests that are kept show that the writer accepts.
+  module _ (numbers : AllKeep numberTests) (marks : AllKeep (markTest g x ∷ [])) where
     lengths : (graphLengths g && eqb (length x) (g .edges) && eqb n 16384) ≡ true
-    lengths = once-keeps LentLength (graphLengths g && eqb (length x) (g .edges) && eqb n 16384) (first-kept .0)
+    lengths = once-keeps LentLength (graphLengths g && eqb (length x) (g .edges) && eqb n 16384) (numbers .0)
 
     lengths-2 : (graphLengths g && eqb (length x) (g .edges)) ≡ true
     lengths-2 = both-true (graphLengths g && eqb (length x) (g .edges)) (eqb n 16384) lengths .0
@@ -57,26 +46,46 @@ module _ (g : Graph) (x : List ℕ) (n : ℕ) where
     lengths-4 : (eqb (length (g .row)) (g .edges) && eqb (length (g .column)) (g .edges)) ≡ true
     lengths-4 = both-true (eqb (length (g .row)) (g .edges) && eqb (length (g .column)) (g .edges)) (eqb (length (g .weight)) (g .edges)) lengths-3 .0
 
-    pub accepted : Accepted g x
-    accepted = record {
+    pub kept-accepted : Accepted g x
+    kept-accepted = record {
       writable = record {
         row-long = eqb-true (length (g .row)) (g .edges) (both-true (eqb (length (g .row)) (g .edges)) (eqb (length (g .column)) (g .edges)) lengths-4 .0);
         column-long = eqb-true (length (g .column)) (g .edges) (both-true (eqb (length (g .row)) (g .edges)) (eqb (length (g .column)) (g .edges)) lengths-4 .1);
         marks-long = eqb-true (length x) (g .edges) (both-true (graphLengths g) (eqb (length x) (g .edges)) lengths-2 .1);
-        sizes = once-keeps Sizes (sizesInRange (g .kind) (g .rows) (g .columns) (g .edges)) (first-kept .1 .0);
-        ends = first-kept .1 .1 .0;
-        marks = λ e l. leb-true (markAt x e) 1 (second-kept .0 e l);
+        sizes = once-keeps Sizes (sizesInRange (g .kind) (g .rows) (g .columns) (g .edges)) (numbers .1 .0);
+        ends = numbers .1 .1 .0;
+        marks = λ e l. leb-true (markAt x e) 1 (marks .0 e l);
       };
       weight-long =
           eqb-true (length (g .weight)) (g .edges)
           (both-true (eqb (length (g .row)) (g .edges) && eqb (length (g .column)) (g .edges)) (eqb (length (g .weight)) (g .edges)) lengths-3 .1);
-      weights = first-kept .1 .1 .1 .0;
-      apart = λ e l. not-true (joined g e (rowAt g e) (columnAt g e)) (first-kept .1 .1 .1 .1 .0 e l);
+      weights = numbers .1 .1 .1 .0;
+      apart = λ e l. not-true (joined g e (rowAt g e) (columnAt g e)) (numbers .1 .1 .1 .1 .0 e l);
     }
 
-    -- Its output has 16,384 bytes.
-    pub output-long : n ≡ 16384
-    output-long = eqb-true n 16384 (both-true (graphLengths g && eqb (length x) (g .edges)) (eqb n 16384) lengths .1)
+    -- The output has 16,384 bytes.
+    pub kept-long : n ≡ 16384
+    kept-long = eqb-true n 16384 (both-true (graphLengths g && eqb (length x) (g .edges)) (eqb n 16384) lengths .1)
+
+  module _ (text : List ℕ) (h : writeSubgraph g x n ≡ yields text) where
+    numbers-kept : AllKeep numberTests
+    numbers-kept = passing-kept numberTests afterwards text (sym writes ∙ h)
+
+    then-yields : afterwards ≡ yields text
+    then-yields = passing-yields numberTests afterwards text (sym writes ∙ h)
+
+    marks-kept : AllKeep (markTest g x ∷ [])
+    marks-kept = passing-kept (markTest g x ∷ []) (yields (subgraphText g x)) text then-yields
+
+    pub accepted : Accepted g x
+    accepted = kept-accepted numbers-kept marks-kept
+
+    -- The text that is yielded is that of the marks.
+    pub text-is : subgraphText g x ≡ text
+    text-is =
+        let e : _≡_ {A = Outcome (List ℕ)} (yields (subgraphText g x)) (yields text) =
+        passing-yields (markTest g x ∷ []) (yields (subgraphText g x)) text then-yields in
+        cc
 
 -- ---- and back: the tests that both calls make are kept
 
@@ -95,7 +104,7 @@ tests-kept {g} a = (
 pub writes-accepted : {g : Graph} {x : List ℕ} → Accepted g x → writeSubgraph g x 16384 ≡ yields (subgraphText g x)
 writes-accepted {g} {x} a =
     writes g x 16384
-    ∙ passing-all (first g x 16384) (second g x 16384) (
+    ∙ passing-all (numberTests g x 16384) (afterwards g x 16384) (
       keeps-once LentLength (graphLengths g && eqb (length x) (g .edges) && eqb 16384 16384)
           (true-both (true-both (lengths-kept a) (eq-eqb (length x) (g .edges) (a .writable .marks-long))) refl),
       tests-kept a,

@@ -59,11 +59,11 @@ header-le General = lit≤ tt
 
 -- ---- the text
 
-length-line : (l : List ℕ) (ls : List (List ℕ)) → length (unlines (l ∷ ls)) ≡ length l + 1 + length (unlines ls)
+pub length-line : (l : List ℕ) (ls : List (List ℕ)) → length (unlines (l ∷ ls)) ≡ length l + 1 + length (unlines ls)
 unfolding unlines
 length-line l ls = let e : length (l ++ (10 ∷ unlines ls)) ≡ length l + length (10 ∷ unlines ls) = length-append l (10 ∷ unlines ls) in omega arith
 
-length-no-line : length (unlines []) ≡ 0
+pub length-no-line : length (unlines []) ≡ 0
 unfolding unlines
 length-no-line = refl
 

@@ -1,5 +1,5 @@
 -- Laws of the tests that a call makes: which items `lowest` finds, and when `passing` yields what follows the tests.
-use mathlib.Core.Path.{_≡_, refl, sym, ap, _∙_}
+use mathlib.Core.Path.{_≡_, refl, sym, ap, ap₂, _∙_}
 use mathlib.Core.Bool.{Bool, true, false, cond, _&&_, _||_}
 use mathlib.Core.List.{List, [], _∷_, _++_}
 use mathlib.Core.Option.{Option, none, some}
@@ -134,3 +134,17 @@ module _ {A : Type 0} where
 
   pub passing-yields : (ts : List Test) (rest : Outcome A) (a : A) → passing ts rest ≡ yields a → rest ≡ yields a
   passing-yields ts rest a h = sym (passing-all ts rest (passing-kept ts rest a h)) ∙ h
+
+-- Tests that refuse do so whatever follows them: B's outcome stands for what a call goes on with after them.
+pub passing-refuses : {A B : Type 0} (ts : List Test) (a : A) (rest : Outcome B) (f : Fault) (k : ℕ) → passing ts (yields a) ≡ refuses f k
+    → passing ts rest ≡ refuses f k
+passing-refuses [] a rest f k h = absurd (zero-one (cc))
+passing-refuses (t ∷ ts) a rest f k h = go (lowest (t .items) (t .keeps)) (passing-refuses ts a rest f k) h
+  where
+    go : (o : Option ℕ) → (passing ts (yields a) ≡ refuses f k → passing ts rest ≡ refuses f k) → found t o (passing ts (yields a)) ≡ refuses f k
+        → found t o (passing ts rest) ≡ refuses f k
+    go none ih h = ih h
+    go (some j) ih h =
+        let p : t .fault ≡ f = cc in
+        let q : t .place j ≡ k = cc in
+        ap₂ refuses p q

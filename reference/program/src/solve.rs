@@ -8,7 +8,7 @@
 //! residual bound to a column with residual bound until no path gains anything.
 //!
 //! Augmenting by heaviest paths keeps the residual network free of gaining
-//! cycles. Hence, going on from a column that some chosen edge meets to a column
+//! cycles. Hence going on from a column that some chosen edge meets to a column
 //! with residual bound never gains, for the sink closes that path to a cycle.
 //! So the search drops a column that is reached with no more than the best gain
 //! found so far, and goes on only from columns without residual bound.

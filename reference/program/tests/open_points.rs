@@ -348,7 +348,7 @@ fn point_16_equal_sets_and_capacity_0() {
 
 #[test]
 fn point_17_outputs_after_refusals() {
-    // Every helper lends slices of other numbers than 0 and tests them after a
+    // Each call in `common` lends slices of other numbers than 0 and tests them after a
     // refusal; here lengths are wrong, and the refusal comes late in the text.
     let mut out = [7; 3];
     let found = read_numbers(&numbers("2 1\n1\n1\n"), 2, What::Bounds, &mut out);

@@ -263,8 +263,8 @@ fn written_subgraphs_read_back() {
             .collect();
         let text = written(&graph.lend(), &chosen).unwrap();
         let mut expected = String::new();
-        for edge in 0..chosen.len() {
-            if chosen[edge] == 1 {
+        for (edge, &mark) in chosen.iter().enumerate() {
+            if mark == 1 {
                 expected += &format!("{} {}\n", graph.row[edge], graph.column[edge]);
             }
         }
@@ -302,7 +302,7 @@ fn written_graphs_read_back() {
 
 #[test]
 fn spoilt_texts_are_read_or_refused_whole() {
-    // The helpers test the outputs after each refusal; no text may make a
+    // The calls in `common` test the outputs after each refusal; no text may make a
     // reader panic.
     let mut random = Random::new(7);
     let graph = case_2();

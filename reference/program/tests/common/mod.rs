@@ -1,4 +1,4 @@
-//! Helpers of the tests: each lends slices that hold other numbers than 0 and
+//! What the tests share: each call lends slices that hold other numbers than 0 and
 //! tests what must hold of them whatever the result.
 #![allow(dead_code)]
 

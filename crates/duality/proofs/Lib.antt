@@ -1,0 +1,5 @@
+-- The theorems of duality, over functions and over the definitions.
+pub mod Core
+pub mod Passed
+pub mod Duality
+pub mod Measured

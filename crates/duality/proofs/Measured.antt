@@ -1,0 +1,96 @@
+-- What the measuring call's numbers mean, and that the solver's prices certify its subgraph.
+use Prim.Native.Nat.{ℕ}
+use mathlib.Core.Path.{_≡_, refl, sym, ap, _∙_, subst}
+use mathlib.Core.List.{List}
+use native.Mathlib.Omega.{arith}
+use lib.IntN.{ℤ, pos, _-ℤ_}
+use lib.ListN.{length}
+use Rattle.integers.specs.Integer.{up, dn}
+use Rattle.integers.proofs.Order.{up-diff, ≤ℤ-antisym, order}
+use Rattle.graph.specs.Refusal.{yields}
+use Rattle.graph.specs.Graph.{Graph, vertices}
+use Rattle.graph.specs.Subgraph.{Feasible, Optimal, weightOf, lacks}
+use Rattle.dual.specs.declared.Measures.{Measures}
+use Rattle.dual.specs.Prices.{Prices}
+use Rattle.dual.specs.Gap.{totalOf, gapOf}
+use Rattle.dual.specs.Measure.{measure, measures}
+use Rattle.dual.specs.Solve.{Lent, solve, Solved, SolverPrice, withoutSets}
+use Rattle.duality.specs.Conditions.{Ends, DualFeasible}
+use Rattle.duality.specs.Meaning.{Meaning, Certified}
+use Rattle.duality.proofs.Passed.{PriceRange, Priced, priced-dual, measure-passed, measure-takes, solve-passed}
+use Rattle.duality.proofs.Duality.{slacks-add, within-capacity, vertex-slack-nonneg, set-slack-nonneg, edge-slack-nonneg, cover-slack-nonneg, gap-bound, no-gap}
+
+-- ---- differences
+
+same-total : (t a b : ℤ) → t -ℤ a ≡ pos 0 → t -ℤ b ≡ a -ℤ b
+same-total t a b e = omega (order, ap up e, ap dn e, up-diff t a, up-diff t b, up-diff a b)
+
+diff-zero : (a b : ℤ) → a -ℤ b ≡ pos 0 → a ≡ b
+diff-zero a b e = omega (order, ap up e, ap dn e, up-diff a b)
+
+zero-diff : (a b : ℤ) → a ≡ b → a -ℤ b ≡ pos 0
+zero-diff a b e = omega (order, ap up e, ap dn e, up-diff a b)
+
+-- ---- the numbers
+
+-- What the measuring call yields has its meaning.
+pub measured : {g : Graph} {bound : List ℤ} {x : List ℕ} {P : Prices} {M : Measures} → measure g bound x P ≡ yields M → Meaning g bound x P M
+measured {g} {bound} {x} {P} {M} e =
+    let p = measure-passed e in
+    let E : Ends g = p .sound .ends in
+    let F : Feasible g bound x = p .feasible in
+    let D : DualFeasible g bound P = priced-dual (p .priced) in
+    subst (Meaning g bound x P) (sym (p .numbers))
+    (record {
+      numbers = refl;
+      feasible = F;
+      vertexSlack = vertex-slack-nonneg F D;
+      setSlack = set-slack-nonneg F D E;
+      edgeSlack = edge-slack-nonneg F D;
+      coverSlack = cover-slack-nonneg F D;
+      slacks = sym (slacks-add E bound x P (F .marks));
+      lack = λ y G. gap-bound E D G x;
+      sets = λ s l y G. within-capacity E G P s (D .rules s l);
+    })
+
+-- A subgraph with measured gap 0 is optimal, in either kind of graph.
+pub no-gap-optimal : {g : Graph} {bound : List ℤ} {x : List ℕ} (P : Prices) {M : Measures} → measure g bound x P ≡ yields M → M .gap ≡ pos 0 → Optimal g bound x
+no-gap-optimal P e none =
+    let p = measure-passed e in
+    no-gap (p .sound .ends) (priced-dual (p .priced)) (p .feasible) (ap (λ (N : Measures). N .gap) (sym (p .numbers)) ∙ none)
+
+-- ---- the solver's prices
+
+solver-price : {z : ℤ} → SolverPrice z → PriceRange z
+solver-price p = (p .least, omega (order, p .greatest))
+
+-- The solver's prices pass the measuring call's tests.
+pub solved-priced : {g : Graph} {bound : List ℤ} {x : List ℕ} {vertex edge : List ℤ} → length vertex ≡ vertices g → length edge ≡ g .edges →
+    Solved g bound x vertex edge → Priced g bound (withoutSets vertex edge)
+solved-priced vertexLong edgeLong S = record {
+  lengths = record { vertex = vertexLong; edge = edgeLong; set = refl; setVertices = refl; setEdges = refl };
+  vertexRange = λ v l. solver-price (S .vertexRange v l);
+  edgeRange = λ e l. solver-price (S .edgeRange e l);
+  setRange = λ s l. absurd (omega arith);
+  fewSets = omega arith;
+  rules = λ s l. absurd (omega arith);
+  covering = S .covering;
+}
+
+-- The solver's prices certify its subgraph: against them a feasible subgraph has gap 0 just where it weighs as much.
+pub certified : {g : Graph} {bound : List ℤ} (lent : Lent) {x : List ℕ} {vertex edge : List ℤ} → solve g bound lent ≡ yields tt →
+    length vertex ≡ vertices g → length edge ≡ g .edges → Solved g bound x vertex edge → (y : List ℕ) → Feasible g bound y → Certified g bound x vertex edge y
+certified {g} {bound} lent {x} {vertex} {edge} e vertexLong edgeLong S y F =
+    let a = solve-passed g bound lent e in
+    let taken = measure-takes (a .sound) (a .bounded) F (solved-priced vertexLong edgeLong S) in
+    let exact : gapOf g bound y (withoutSets vertex edge) ≡ lacks g x y = same-total (totalOf g bound (withoutSets vertex edge)) (weightOf g x) (weightOf g y) (S .noGap) in
+    record {
+      numbers = measures g bound y (withoutSets vertex edge);
+      measured = taken;
+      exact = exact;
+      noGap = (λ none. sym (diff-zero (weightOf g x) (weightOf g y) (sym exact ∙ none)), λ same. exact ∙ zero-diff (weightOf g x) (weightOf g y) (sym same));
+      optimal = (
+        no-gap-optimal (withoutSets vertex edge) taken,
+        λ best. exact ∙ zero-diff (weightOf g x) (weightOf g y) (≤ℤ-antisym (best .most x (S .optimal .feasible)) (S .optimal .most y F)),
+      );
+    }

@@ -1,0 +1,417 @@
+-- What a call's tests have shown once they have passed, test by test.
+use Prim.Native.Nat.{ℕ, _+_, _*_, _-_, _≤_, _<_}
+use mathlib.Core.Path.{_≡_, refl, sym, ap, ap₂, _∙_, subst}
+use mathlib.Core.Logic.{_≢_}
+use mathlib.Core.Bool.{Bool, true, false, not, _&&_, _||_, true≢false}
+use mathlib.Core.List.{List, [], _∷_, _++_}
+use native.Mathlib.Omega.{arith}
+use native.Mathlib.Decide.{decLt}
+use lib.Dec.{leb, ltb, eqb}
+use lib.IntN.{ℤ, pos, negsuc}
+use lib.ListN.{length, getD, length-append, List·getD-append}
+use lib.Seq.{getD-append-add}
+use lib.Signed.{_≤ℤ_}
+use borrow.Author.Tests.{eqb-true, leb-true, ltb-true, not-true, not-false, le-leb, lt-ltb, eq-eqb}
+use Rattle.integers.proofs.Order.{leZ-true, le-leZ, between-true, le-between}
+use Rattle.graph.specs.declared.Kind.{Kind}
+use Rattle.graph.specs.declared.Kind.the-variants.{Bipartite, General}
+use Rattle.graph.specs.declared.Fault.the-variants.{LentLength}
+use Rattle.graph.specs.Refusal.{Outcome, yields, Test, once, passing}
+use Rattle.graph.specs.Graph.{Graph, some?, vertices, verticesOf, columnVertex, rowAt, columnAt, weightAt, firstEnd, secondEnd, boundAt, upTo, sizesInRange, endsInRange, priceInRange, joins, joined}
+use Rattle.graph.specs.Subgraph.{Feasible, markAt, degree}
+use Rattle.graph.specs.Tests.{graphLengths, graphTests, boundTest, kindTest, isBipartite, markTest, degreeTest}
+use Rattle.graph.proofs.Passing.{lowest-none, none-lowest, some-none, passing-yields, passing-none}
+use Rattle.dual.specs.declared.Measures.{Measures}
+use Rattle.dual.specs.Prices.{Prices, vertexPrice, edgePrice, setPrice, allPrices, marked}
+use Rattle.dual.specs.Sets.{every, nothingAbove, hasVertex, endsInside, oneEndInside, isOdd, keepsRules}
+use Rattle.dual.specs.Gap.{coverOf}
+use Rattle.dual.specs.Measure.{measure, measures, measureLengths, measureTests, priceTest, setTest, coverTest}
+use Rattle.dual.specs.Solve.{Lent, solve, solveLengths}
+use Rattle.duality.specs.Conditions.{Ends, DualFeasible}
+
+-- ---- what tests are made of
+
+and-left : (s t : Bool) → s && t ≡ true → s ≡ true
+and-left true t e = refl
+and-left false t e = e
+
+and-right : (s t : Bool) → s && t ≡ true → t ≡ true
+and-right true t e = e
+and-right false true e = refl
+and-right false false e = e
+
+-- A row of tests, written s && t && ..
+abbrev pub chain : Bool → List Bool → Bool
+chain s [] = s
+chain s (t ∷ ts) = chain (s && t) ts
+
+abbrev pub Held : List Bool → Type 0
+Held [] = Unit {0}
+Held (t ∷ ts) = (t ≡ true) × Held ts
+
+pub held : (s : Bool) (ts : List Bool) → chain s ts ≡ true → (s ≡ true) × Held ts
+held s [] e = (e, tt)
+held s (t ∷ ts) e = let h = held (s && t) ts e in (and-left s t (h .0), (and-right s t (h .0), h .1))
+
+infixl 5 _also_
+_also_ : {s t : Bool} → s ≡ true → t ≡ true → s && t ≡ true
+p also q = ap₂ _&&_ p q
+
+pub every-true : (n : ℕ) (f : ℕ → Bool) → every n f ≡ true → (k : ℕ) → k < n → f k ≡ true
+every-true n f e k l = not-false (f k) (some-none n (λ j. not (f j)) (not-true (some? n (λ j. not (f j))) e) k l)
+
+up-to-true : (n x : ℕ) → upTo n x ≡ true → (1 ≤ x) × (x ≤ n)
+up-to-true n x e = (leb-true 1 x (and-left (leb 1 x) (leb x n) e), leb-true x n (and-right (leb 1 x) (leb x n) e))
+
+-- ---- odd sets
+
+-- A marked edge has just one end inside.
+pub one-end : (g : Graph) (bound : List ℤ) (P : Prices) (s : ℕ) → keepsRules g bound P s ≡ true → (e : ℕ) → e < g .edges → marked P s e ≡ true → endsInside g P s e ≡ 1
+one-end g bound P s k e l m =
+    eqb-true (endsInside g P s e) 1
+    (ap (λ b. not b || eqb (endsInside g P s e) 1) (sym m)
+    ∙ every-true (g .edges) (λ d. not (marked P s d) || eqb (endsInside g P s d) 1)
+    (held (nothingAbove g P s) (hasVertex g P s ∷ oneEndInside g P s ∷ isOdd g bound P s ∷ []) k .1 .1 .0) e l)
+
+-- ---- tests in their order
+
+-- Every item keeps its test.
+abbrev pub Passes : List Test → Type 0
+Passes [] = Unit {0}
+Passes (t ∷ ts) = ((k : ℕ) → k < t .items → t .keeps k ≡ true) × Passes ts
+
+pub passes : {A : Type 0} (ts : List Test) (o : Outcome A) (a : A) → passing ts o ≡ yields a → Passes ts × (o ≡ yields a)
+passes [] o a e = (tt, e)
+passes (t ∷ ts) o a e =
+    let h = passing-yields t ts o a e in
+    let r = passes ts o a (h .1) in
+    ((lowest-none (t .items) (t .keeps) (h .0), r .0), r .1)
+
+pub pass : {A : Type 0} (ts : List Test) → Passes ts → (o : Outcome A) → passing ts o ≡ o
+pass [] p o = refl
+pass (t ∷ ts) p o = passing-none t ts o (none-lowest (t .items) (t .keeps) (p .0)) ∙ pass ts (p .1) o
+
+pub passes-split : (ts us : List Test) → Passes (ts ++ us) → Passes ts × Passes us
+passes-split [] us p = (tt, p)
+passes-split (t ∷ ts) us p = let r = passes-split ts us (p .1) in ((p .0, r .0), r .1)
+
+pub passes-join : (ts us : List Test) → Passes ts → Passes us → Passes (ts ++ us)
+passes-join [] us p q = q
+passes-join (t ∷ ts) us p q = (p .0, passes-join ts us (p .1) q)
+
+-- ---- the graph
+
+-- The tests of a graph's lengths and numbers pass, and what they show.
+pub record Sound (g : Graph) : Type 0 where
+  pub lengths : graphLengths g ≡ true
+  pub passed : Passes (graphTests g)
+  pub rowLong : length (g .row) ≡ g .edges
+  pub columnLong : length (g .column) ≡ g .edges
+  pub weightLong : length (g .weight) ≡ g .edges
+  pub someRow : 1 ≤ g .rows
+  pub someColumn : 1 ≤ g .columns
+  pub fewVertices : vertices g ≤ 128
+  pub fewEdges : g .edges ≤ 1024
+  pub rowRange : (e : ℕ) → e < g .edges → (1 ≤ rowAt g e) × (rowAt g e ≤ g .rows)
+  pub columnRange : (e : ℕ) → e < g .edges → (1 ≤ columnAt g e) × (columnAt g e ≤ g .columns)
+  pub ends : Ends g
+  pub apart : (e : ℕ) → e < g .edges → firstEnd g e ≢ secondEnd g e
+  pub weightRange : (e : ℕ) → e < g .edges → (negsuc 999999 ≤ℤ weightAt g e) × (weightAt g e ≤ℤ pos 1000000)
+  pub simple : (e : ℕ) → e < g .edges → (d : ℕ) → d < e → rowAt g d ≡ rowAt g e → columnAt g d ≡ columnAt g e → ⊥
+
+record SizesKept (k : Kind) (rows columns edges : ℕ) : Type 0 where
+  someRow : 1 ≤ rows
+  someColumn : 1 ≤ columns
+  fewVertices : verticesOf k rows columns ≤ 128
+  fewEdges : edges ≤ 1024
+
+sizes-true : (k : Kind) (rows columns edges : ℕ) → sizesInRange k rows columns edges ≡ true → SizesKept k rows columns edges
+sizes-true Bipartite rows columns edges e =
+    let h = held (upTo 64 rows) (upTo 64 columns ∷ leb edges 1024 ∷ []) e in
+    let r = up-to-true 64 rows (h .0) in
+    let c = up-to-true 64 columns (h .1 .0) in
+    record { someRow = r .0; someColumn = c .0; fewVertices = omega arith; fewEdges = leb-true edges 1024 (h .1 .1 .0) }
+sizes-true General rows columns edges e =
+    let h = held (upTo 128 rows) (eqb columns rows ∷ leb edges 1024 ∷ []) e in
+    let r = up-to-true 128 rows (h .0) in
+    record { someRow = r .0; someColumn = omega (arith, eqb-true columns rows (h .1 .0)); fewVertices = r .1; fewEdges = leb-true edges 1024 (h .1 .1 .0) }
+
+record EndsKept (k : Kind) (rows columns r c : ℕ) : Type 0 where
+  row : (1 ≤ r) × (r ≤ rows)
+  column : (1 ≤ c) × (c ≤ columns)
+  first : r - 1 < verticesOf k rows columns
+  second : columnVertex k rows c < verticesOf k rows columns
+  apart : r - 1 ≢ columnVertex k rows c
+
+ends-true : (k : Kind) (rows columns r c : ℕ) → endsInRange k rows columns r c ≡ true → EndsKept k rows columns r c
+ends-true Bipartite rows columns r c e =
+    let h = held (upTo rows r) (upTo columns c ∷ []) e in
+    let i = up-to-true rows r (h .0) in
+    let j = up-to-true columns c (h .1 .0) in
+    record { row = i; column = j; first = omega arith; second = omega arith; apart = λ q. omega arith }
+ends-true General rows columns r c e =
+    let h = held (upTo rows r) (upTo columns c ∷ ltb c r ∷ []) e in
+    let i = up-to-true rows r (h .0) in
+    let j = up-to-true columns c (h .1 .0) in
+    let l = ltb-true c r (h .1 .1 .0) in
+    record { row = i; column = j; first = omega arith; second = omega arith; apart = λ q. omega arith }
+
+not-joined : (g : Graph) (e : ℕ) → not (joined g e (rowAt g e) (columnAt g e)) ≡ true → (d : ℕ) → d < e → rowAt g d ≡ rowAt g e → columnAt g d ≡ columnAt g e → ⊥
+not-joined g e h d l p q =
+    true≢false
+    (sym (eq-eqb (rowAt g d) (rowAt g e) p also eq-eqb (columnAt g d) (columnAt g e) q)
+    ∙ some-none e (joins g (rowAt g e) (columnAt g e)) (not-true (joined g e (rowAt g e) (columnAt g e)) h) d l)
+
+pub graph-passed : (g : Graph) → graphLengths g ≡ true → Passes (graphTests g) → Sound g
+graph-passed g lengths p =
+    let h = held (eqb (length (g .row)) (g .edges)) (eqb (length (g .column)) (g .edges) ∷ eqb (length (g .weight)) (g .edges) ∷ []) lengths in
+    let sizes = sizes-true (g .kind) (g .rows) (g .columns) (g .edges) (p .0 0 (omega arith)) in
+    record {
+      lengths = lengths;
+      passed = p;
+      rowLong = eqb-true (length (g .row)) (g .edges) (h .0);
+      columnLong = eqb-true (length (g .column)) (g .edges) (h .1 .0);
+      weightLong = eqb-true (length (g .weight)) (g .edges) (h .1 .1 .0);
+      someRow = sizes .someRow;
+      someColumn = sizes .someColumn;
+      fewVertices = sizes .fewVertices;
+      fewEdges = sizes .fewEdges;
+      rowRange = λ e l. at e l .row;
+      columnRange = λ e l. at e l .column;
+      ends = record { first = λ e l. at e l .first; second = λ e l. at e l .second };
+      apart = λ e l. at e l .apart;
+      weightRange = λ e l. between-true (negsuc 999999) (pos 1000000) (weightAt g e) (p .1 .1 .0 e l);
+      simple = λ e l. not-joined g e (p .1 .1 .1 .0 e l);
+    }
+  where
+    at : (e : ℕ) → e < g .edges → EndsKept (g .kind) (g .rows) (g .columns) (rowAt g e) (columnAt g e)
+    at e l = ends-true (g .kind) (g .rows) (g .columns) (rowAt g e) (columnAt g e) (p .1 .0 e l)
+
+-- ---- bounds, subgraph
+
+-- The tests of the bounds pass, and what they show.
+pub record Bounded (g : Graph) (bound : List ℤ) : Type 0 where
+  pub passed : Passes (boundTest g bound ∷ [])
+  pub long : length bound ≡ vertices g
+  pub range : (v : ℕ) → v < vertices g → (pos 0 ≤ℤ boundAt bound v) × (boundAt bound v ≤ℤ pos 64)
+
+pub bound-passed : (g : Graph) (bound : List ℤ) → eqb (length bound) (vertices g) ≡ true → Passes (boundTest g bound ∷ []) → Bounded g bound
+bound-passed g bound e p = record {
+  passed = p;
+  long = eqb-true (length bound) (vertices g) e;
+  range = λ v l. between-true (pos 0) (pos 64) (boundAt bound v) (p .0 v l);
+}
+
+pub subgraph-passed : (g : Graph) (bound : List ℤ) (x : List ℕ) → eqb (length x) (g .edges) ≡ true → Passes (markTest g x ∷ degreeTest g bound x ∷ []) → Feasible g bound x
+subgraph-passed g bound x e p = record {
+  long = eqb-true (length x) (g .edges) e;
+  marks = λ d l. leb-true (markAt x d) 1 (p .0 d l);
+  within = λ v l. leZ-true (pos (degree g x v)) (boundAt bound v) (p .1 .0 v l);
+}
+
+-- A feasible subgraph passes.
+pub feasible-passes : {g : Graph} {bound : List ℤ} {x : List ℕ} → Feasible g bound x → Passes (markTest g x ∷ degreeTest g bound x ∷ [])
+feasible-passes {g} {bound} {x} F = (λ d l. le-leb (markAt x d) 1 (F .marks d l), (λ v l. le-leZ (F .within v l), tt))
+
+-- ---- prices
+
+-- What holds of each number of two rows holds of each of the two rows put together, and the other way round.
+module _ (Q : ℤ → Type 0) (xs ys : List ℤ) where
+  pub front : ((k : ℕ) → k < length (xs ++ ys) → Q (getD (xs ++ ys) k (pos 0))) → (k : ℕ) → k < length xs → Q (getD xs k (pos 0))
+  front h k l = subst Q (List·getD-append xs ys (pos 0) k l) (h k (omega (arith, length-append xs ys)))
+
+  pub back : ((k : ℕ) → k < length (xs ++ ys) → Q (getD (xs ++ ys) k (pos 0))) → (k : ℕ) → k < length ys → Q (getD ys k (pos 0))
+  back h k l = subst Q (getD-append-add xs ys k (pos 0)) (h (length xs + k) (omega (arith, length-append xs ys)))
+
+  pub together : ((k : ℕ) → k < length xs → Q (getD xs k (pos 0))) → ((k : ℕ) → k < length ys → Q (getD ys k (pos 0))) → (k : ℕ) → k < length (xs ++ ys) → Q (getD (xs ++ ys) k (pos 0))
+  together f b k l = elim (decLt k (length xs)) [
+    | yes h ↦ subst Q (sym (List·getD-append xs ys (pos 0) k h)) (f k h)
+    | no h ↦
+        let e : length xs + (k - length xs) ≡ k = omega (arith, h) in
+        subst (λ j. Q (getD (xs ++ ys) j (pos 0))) e
+        (subst Q (sym (getD-append-add xs ys (k - length xs) (pos 0))) (b (k - length xs) (omega (arith, h, length-append xs ys))))
+  ]
+
+-- A price is in range.
+abbrev pub PriceRange : ℤ → Type 0
+PriceRange z = (pos 0 ≤ℤ z) × (z ≤ℤ pos 2000000)
+
+-- The lengths of what a price sheet lends.
+pub record PriceLengths (g : Graph) (P : Prices) : Type 0 where
+  pub vertex : length (P .vertex) ≡ vertices g
+  pub edge : length (P .edge) ≡ g .edges
+  pub set : length (P .set) ≡ P .sets
+  pub setVertices : length (P .setVertices) ≡ 2 * P .sets
+  pub setEdges : length (P .setEdges) ≡ 16 * P .sets
+
+-- What the tests of the prices and the odd sets show.
+pub record Priced (g : Graph) (bound : List ℤ) (P : Prices) : Type 0 where
+  pub lengths : PriceLengths g P
+  pub vertexRange : (v : ℕ) → v < vertices g → PriceRange (vertexPrice P v)
+  pub edgeRange : (e : ℕ) → e < g .edges → PriceRange (edgePrice P e)
+  pub setRange : (s : ℕ) → s < P .sets → PriceRange (setPrice P s)
+  pub fewSets : P .sets ≤ 16
+  pub rules : (s : ℕ) → s < P .sets → keepsRules g bound P s ≡ true
+  pub covering : (e : ℕ) → e < g .edges → weightAt g e ≤ℤ coverOf g P e
+
+few-sets : (g : Graph) (bound : List ℤ) (P : Prices) → Passes (setTest g bound P ∷ []) → P .sets ≤ 16
+few-sets g bound P p = elim (decLt 16 (P .sets)) [
+  | yes h ↦ absurd (true≢false (sym (p .0 16 (omega arith))))
+  | no h ↦ omega (arith, h)
+]
+
+pub prices-passed : {g : Graph} {P : Prices} (bound : List ℤ) → PriceLengths g P → Passes (priceTest P ∷ setTest g bound P ∷ coverTest g P ∷ []) → Priced g bound P
+prices-passed {g} {P} bound lengths p =
+    let later = back PriceRange (P .vertex) (P .edge ++ P .set) ranged in
+    let few = few-sets g bound P (p .1 .0, tt) in
+    record {
+      lengths = lengths;
+      vertexRange = λ v l. front PriceRange (P .vertex) (P .edge ++ P .set) ranged v (omega arith);
+      edgeRange = λ e l. front PriceRange (P .edge) (P .set) later e (omega arith);
+      setRange = λ s l. back PriceRange (P .edge) (P .set) later s (omega arith);
+      fewSets = few;
+      rules = λ s l. and-right (ltb s 16) (keepsRules g bound P s) (p .1 .0 s (omega (arith, few)));
+      covering = λ e l. leZ-true (weightAt g e) (coverOf g P e) (p .1 .1 .0 e l);
+    }
+  where
+    ranged : (k : ℕ) → k < length (allPrices P) → PriceRange (getD (allPrices P) k (pos 0))
+    ranged k l = between-true (pos 0) (pos 2000000) (getD (allPrices P) k (pos 0)) (p .0 k l)
+
+in-range : {z : ℤ} → PriceRange z → priceInRange z ≡ true
+in-range p = le-between (p .0) (p .1)
+
+-- Such prices pass.
+pub priced-passes : {g : Graph} {bound : List ℤ} {P : Prices} → Priced g bound P → Passes (priceTest P ∷ setTest g bound P ∷ coverTest g P ∷ [])
+priced-passes {g} {bound} {P} p = (
+  together (λ z. priceInRange z ≡ true) (P .vertex) (P .edge ++ P .set) (λ v l. in-range (p .vertexRange v (omega (arith, p .lengths .vertex))))
+      (together (λ z. priceInRange z ≡ true) (P .edge) (P .set) (λ e l. in-range (p .edgeRange e (omega (arith, p .lengths .edge))))
+      (λ s l. in-range (p .setRange s (omega (arith, p .lengths .set))))),
+  (λ s l. lt-ltb s 16 (omega (arith, p .fewSets)) also p .rules s (omega arith), (λ e l. le-leZ (p .covering e l), tt)),
+)
+
+pub priced-dual : {g : Graph} {bound : List ℤ} {P : Prices} → Priced g bound P → DualFeasible g bound P
+priced-dual p = record {
+  vertexPrices = λ v l. p .vertexRange v l .0;
+  edgePrices = λ e l. p .edgeRange e l .0;
+  setPrices = λ s l. p .setRange s l .0;
+  rules = p .rules;
+  covering = p .covering;
+}
+
+-- ---- the measuring call and the solver
+
+-- What the measuring call's tests show.
+pub record MeasurePassed (g : Graph) (bound : List ℤ) (x : List ℕ) (P : Prices) (M : Measures) : Type 0 where
+  pub sound : Sound g
+  pub bounded : Bounded g bound
+  pub feasible : Feasible g bound x
+  pub priced : Priced g bound P
+  pub numbers : M ≡ measures g bound x P
+
+yields-same : {A : Type 0} {a b : A} → yields a ≡ yields b → a ≡ b
+yields-same e = cc
+
+pub measure-passed : {g : Graph} {bound : List ℤ} {x : List ℕ} {P : Prices} {M : Measures} → measure g bound x P ≡ yields M → MeasurePassed g bound x P M
+unfolding measure
+measure-passed {g} {bound} {x} {P} {M} e =
+    let p = passes (measureTests g bound x P) (yields (measures g bound x P)) M e in
+    let lengths =
+    held (graphLengths g)
+    (eqb (length bound) (vertices g) ∷ eqb (length x) (g .edges) ∷ eqb (length (P .vertex)) (vertices g) ∷ eqb (length (P .edge)) (g .edges)
+    ∷ eqb (length (P .set)) (P .sets) ∷ eqb (length (P .setVertices)) (2 * P .sets) ∷ eqb (length (P .setEdges)) (16 * P .sets) ∷ [])
+    (p .0 .0 0 (omega arith)) in
+    let later = passes-split (graphTests g) (boundTest g bound ∷ markTest g x ∷ degreeTest g bound x ∷ priceTest P ∷ setTest g bound P ∷ coverTest g P ∷ []) (p .0 .1) in
+    record {
+      sound = graph-passed g (lengths .0) (later .0);
+      bounded = bound-passed g bound (lengths .1 .0) (later .1 .0, tt);
+      feasible = subgraph-passed g bound x (lengths .1 .1 .0) (later .1 .1 .0, (later .1 .1 .1 .0, tt));
+      priced = prices-passed bound (record {
+        vertex = eqb-true (length (P .vertex)) (vertices g) (lengths .1 .1 .1 .0);
+        edge = eqb-true (length (P .edge)) (g .edges) (lengths .1 .1 .1 .1 .0);
+        set = eqb-true (length (P .set)) (P .sets) (lengths .1 .1 .1 .1 .1 .0);
+        setVertices = eqb-true (length (P .setVertices)) (2 * P .sets) (lengths .1 .1 .1 .1 .1 .1 .0);
+        setEdges = eqb-true (length (P .setEdges)) (16 * P .sets) (lengths .1 .1 .1 .1 .1 .1 .1 .0);
+      }) (later .1 .1 .1 .1);
+      numbers = sym (yields-same (p .1));
+    }
+
+-- The measuring call takes what passes.
+pub measure-takes : {g : Graph} {bound : List ℤ} {x : List ℕ} {P : Prices} → Sound g → Bounded g bound → Feasible g bound x → Priced g bound P →
+    measure g bound x P ≡ yields (measures g bound x P)
+unfolding measure
+measure-takes {g} {bound} {x} {P} S B F p =
+    let subgraph = feasible-passes F in
+    pass (measureTests g bound x P) (
+      λ k l. long,
+      passes-join (graphTests g) (boundTest g bound ∷ markTest g x ∷ degreeTest g bound x ∷ priceTest P ∷ setTest g bound P ∷ coverTest g P ∷ []) (S .passed)
+          (B .passed .0, (subgraph .0, (subgraph .1 .0, priced-passes p))),
+    )
+    (yields (measures g bound x P))
+  where
+    long : measureLengths g bound x P ≡ true
+    long =
+        S .lengths
+        also eq-eqb (length bound) (vertices g) (B .long)
+        also eq-eqb (length x) (g .edges) (F .long)
+        also eq-eqb (length (P .vertex)) (vertices g) (p .lengths .vertex)
+        also eq-eqb (length (P .edge)) (g .edges) (p .lengths .edge)
+        also eq-eqb (length (P .set)) (P .sets) (p .lengths .set)
+        also eq-eqb (length (P .setVertices)) (2 * P .sets) (p .lengths .setVertices)
+        also eq-eqb (length (P .setEdges)) (16 * P .sets) (p .lengths .setEdges)
+
+-- What the solver's tests show.
+pub record SolvePassed (g : Graph) (bound : List ℤ) (lent : Lent) : Type 0 where
+  pub sound : Sound g
+  pub bounded : Bounded g bound
+  pub bipartite : g .kind ≡ Bipartite
+  pub fewRows : g .rows ≤ 64
+  pub fewColumns : g .columns ≤ 64
+  pub rowSide : (e : ℕ) → e < g .edges → firstEnd g e < g .rows
+  pub columnSide : (e : ℕ) → e < g .edges → g .rows ≤ secondEnd g e
+  pub chosenLong : lent .chosen ≡ g .edges
+  pub vertexLong : lent .vertexPrices ≡ vertices g
+  pub edgeLong : lent .edgePrices ≡ g .edges
+  pub workspaceLong : lent .workspace ≡ 4096
+
+record Sides (k : Kind) (rows columns : ℕ) : Type 0 where
+  bipartite : k ≡ Bipartite
+  fewRows : rows ≤ 64
+  fewColumns : columns ≤ 64
+  columnSide : (c : ℕ) → rows ≤ columnVertex k rows c
+
+bipartite-true : (k : Kind) (rows columns edges : ℕ) → isBipartite k ≡ true → sizesInRange k rows columns edges ≡ true → Sides k rows columns
+bipartite-true Bipartite rows columns edges e h =
+    let sizes = held (upTo 64 rows) (upTo 64 columns ∷ leb edges 1024 ∷ []) h in
+    record {
+      bipartite = refl;
+      fewRows = up-to-true 64 rows (sizes .0) .1;
+      fewColumns = up-to-true 64 columns (sizes .1 .0) .1;
+      columnSide = λ c. omega arith;
+    }
+bipartite-true General rows columns edges e h = absurd (true≢false (sym e))
+
+pub solve-passed : (g : Graph) (bound : List ℤ) (lent : Lent) → solve g bound lent ≡ yields tt → SolvePassed g bound lent
+unfolding solve
+solve-passed g bound lent e =
+    let p = passes (once LentLength (solveLengths g bound lent) ∷ (graphTests g ++ (boundTest g bound ∷ kindTest g ∷ []))) (yields tt) tt e in
+    let lengths =
+    held (graphLengths g)
+    (eqb (length bound) (vertices g) ∷ eqb (lent .chosen) (g .edges) ∷ eqb (lent .vertexPrices) (vertices g) ∷ eqb (lent .edgePrices) (g .edges)
+    ∷ eqb (lent .workspace) 4096 ∷ [])
+    (p .0 .0 0 (omega arith)) in
+    let later = passes-split (graphTests g) (boundTest g bound ∷ kindTest g ∷ []) (p .0 .1) in
+    let sound = graph-passed g (lengths .0) (later .0) in
+    let sides = bipartite-true (g .kind) (g .rows) (g .columns) (g .edges) (later .1 .1 .0 0 (omega arith)) (later .0 .0 0 (omega arith)) in
+    record {
+      sound = sound;
+      bounded = bound-passed g bound (lengths .1 .0) (later .1 .0, tt);
+      bipartite = sides .bipartite;
+      fewRows = sides .fewRows;
+      fewColumns = sides .fewColumns;
+      rowSide = λ e l. omega (arith, sound .rowRange e l);
+      columnSide = λ e l. sides .columnSide (columnAt g e);
+      chosenLong = eqb-true (lent .chosen) (g .edges) (lengths .1 .1 .0);
+      vertexLong = eqb-true (lent .vertexPrices) (vertices g) (lengths .1 .1 .1 .0);
+      edgeLong = eqb-true (lent .edgePrices) (g .edges) (lengths .1 .1 .1 .1 .0);
+      workspaceLong = eqb-true (lent .workspace) 4096 (lengths .1 .1 .1 .1 .1 .0);
+    }

@@ -1,0 +1,3 @@
+-- What the theorems of duality ask and say.
+pub mod Conditions
+pub mod Meaning

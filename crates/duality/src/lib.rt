@@ -1,0 +1,1 @@
+// Weak duality over the definitions of dual: this crate has theorems only.

@@ -1,0 +1,87 @@
+-- The number that digits make, for the loop that reads it.
+use mathlib.Core.Path.{_≡_, refl, ap, _∙_}
+use mathlib.Core.Bool.{Bool, true, false, cond, and-false}
+use mathlib.Core.List.{List, [], _∷_}
+use mathlib.Core.Option.{none, some}
+use Prim.Native.Nat.{ℕ, suc, _+_, _*_, _-_, _^_, _≤_, _<_}
+use native.Mathlib.Nat.{pow-suc, pow-le-pow-right}
+use native.Mathlib.Numerals.{add-one}
+use native.Mathlib.Omega.{arith}
+use lib.Dec.{lit<}
+use borrow.Author.Tests.{le-leb, lt-leb}
+use lib.ListN.{length, drop, getD, drop-of-length-le}
+use lib.Seq.{drop-cons}
+use Rattle.layout.specs.Text.{digit, digitsAfter, natural}
+
+pub digit-yes : (d : ℕ) → 48 ≤ d → d ≤ 57 → digit d ≡ true
+digit-yes d h k = simp (le-leb 48 d h, le-leb d 57 k)
+
+digit-low : (d : ℕ) → d < 48 → digit d ≡ false
+digit-low d h = simp (lt-leb 48 d h)
+
+digit-high : (d : ℕ) → 57 < d → digit d ≡ false
+digit-high d h = simp (lt-leb d 57 h, and-false)
+
+pub after-nil : (n : ℕ) → digitsAfter n [] ≡ some n
+unfolding digitsAfter
+after-nil n = refl
+
+pub after-yes : (n d : ℕ) (ds : List ℕ) → digit d ≡ true → digitsAfter n (d ∷ ds) ≡ digitsAfter (n * 10 + (d - 48)) ds
+unfolding digitsAfter
+after-yes n d ds h = ap (λ (b : Bool). cond b (digitsAfter (n * 10 + (d - 48)) ds) none) h
+
+pub after-no : (n d : ℕ) (ds : List ℕ) → digit d ≡ false → digitsAfter n (d ∷ ds) ≡ none
+unfolding digitsAfter
+after-no n d ds h = ap (λ (b : Bool). cond b (digitsAfter (n * 10 + (d - 48)) ds) none) h
+
+pub natural-in : (w : List ℕ) → 1 ≤ length w → length w ≤ 9 → natural w ≡ digitsAfter 0 w
+unfolding natural
+natural-in w h k = simp (le-leb 1 (length w) h, le-leb (length w) 9 k)
+
+pub natural-short : (w : List ℕ) → length w < 1 → natural w ≡ none
+unfolding natural
+natural-short w h = simp (lt-leb 1 (length w) h)
+
+pub natural-long : (w : List ℕ) → 9 < length w → natural w ≡ none
+unfolding natural
+natural-long w h = simp (lt-leb (length w) 9 h, and-false)
+
+-- The invariant of the loop: it has read i digits, which make n.
+pub record Reading (w : List ℕ) (n i : ℕ) : Type 0 where
+  pub some-digits : 1 ≤ length w
+  pub few-digits : length w ≤ 9
+  pub within : i ≤ length w
+  pub small : n < 10 ^ i
+  pub rest : digitsAfter 0 w ≡ digitsAfter n (drop i w)
+
+pub reading-starts : (w : List ℕ) → 1 ≤ length w → length w ≤ 9 → Reading w 0 0
+reading-starts w h k = record { some-digits = h; few-digits = k; within = omega arith; small = lit< tt; rest = refl }
+
+module _ (w : List ℕ) (n i : ℕ) (r : Reading w n i) where
+  whole : natural w ≡ digitsAfter n (drop i w)
+  whole = natural-in w (r .some-digits) (r .few-digits) ∙ r .rest
+
+  -- One more digit leaves a number below 10 ^ 9.
+  pub reading-small : i < length w → n < 10 ^ 8
+  reading-small lt =
+      let k : i ≤ 8 = omega arith in
+      let h : 10 ^ i ≤ 10 ^ 8 = pow-le-pow-right (lit< tt) k in
+      omega arith
+
+  pub reading-low : i < length w → getD w i 0 < 48 → natural w ≡ none
+  reading-low lt h = whole ∙ rw (drop-cons w i 0 lt) (after-no n (getD w i 0) (drop (suc i) w) (digit-low (getD w i 0) h))
+
+  pub reading-high : i < length w → 57 < getD w i 0 → natural w ≡ none
+  reading-high lt h = whole ∙ rw (drop-cons w i 0 lt) (after-no n (getD w i 0) (drop (suc i) w) (digit-high (getD w i 0) h))
+
+  pub reading-more : i < length w → 48 ≤ getD w i 0 → getD w i 0 ≤ 57 → Reading w (n * 10 + (getD w i 0 - 48)) (i + 1)
+  reading-more lt h k = record {
+    some-digits = r .some-digits;
+    few-digits = r .few-digits;
+    within = omega arith;
+    small = rw (add-one, pow-suc) (omega arith);
+    rest = r .rest ∙ rw (drop-cons w i 0 lt, add-one) (after-yes n (getD w i 0) (drop (suc i) w) (digit-yes (getD w i 0) h k));
+  }
+
+  pub reading-end : length w ≤ i → natural w ≡ some n
+  reading-end le = whole ∙ rw (drop-of-length-le w le) (after-nil n)

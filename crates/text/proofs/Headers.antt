@@ -1,0 +1,108 @@
+-- Header lines and comments, a word at a time.
+use mathlib.Core.Path.{_≡_, refl, sym, ap, _∙_, subst}
+use mathlib.Core.Bool.{Bool, true, false, not, _&&_}
+use mathlib.Core.List.{List, [], _∷_, map}
+use Prim.Native.Nat.{ℕ, _≤_}
+use native.Mathlib.Omega.{arith}
+use lib.Dec.{eqb}
+use lib.ListN.{length, drop, getD}
+use Rattle.layout.specs.Text.{bytes, blank, words, noWords, commentLine, same, lower, sameFolded, headerWords, begins, header}
+use Rattle.text.specs.Cursor.{firstWord, pastWord, within, follow, Taken}
+use Rattle.text.specs.declared.Key.{Key}
+use Rattle.text.specs.declared.Key.the-variants as Key
+use Rattle.text.proofs.Pieces.{Front, nothing, word, front, zero-one}
+
+-- The first byte of a line.
+pub comment-empty : (l : List ℕ) → length l ≡ 0 → commentLine l ≡ false
+comment-empty [] h = refl
+comment-empty (x ∷ l) h = absurd (zero-one (omega arith))
+
+pub comment-at : (l : List ℕ) → (length l ≡ 0 → ⊥) → eqb (getD l 0 0) 37 ≡ commentLine l
+comment-at [] ne = absurd (ne refl)
+comment-at (x ∷ l) ne = refl
+
+pub begins-empty : (l : List ℕ) → length l ≡ 0 → begins l ≡ false
+begins-empty [] h = refl
+begins-empty (x ∷ l) h = absurd (zero-one (omega arith))
+
+pub begins-at : (l : List ℕ) → (length l ≡ 0 → ⊥) → (b : Bool) → b ≡ blank (getD l 0 0) → not b ≡ begins l
+begins-at [] ne b h = absurd (ne refl)
+begins-at (x ∷ l) ne b h = ap not h
+
+folded-nil : (k : List ℕ) (ks : List (List ℕ)) → sameFolded [] (k ∷ ks) ≡ false
+unfolding sameFolded
+folded-nil k ks = refl
+
+folded-cons : (w k : List ℕ) (ws ks : List (List ℕ)) → sameFolded (w ∷ ws) (k ∷ ks) ≡ (same (map lower w) k && sameFolded ws ks)
+unfolding sameFolded
+folded-cons w k ws ks = refl
+
+pub folded-end : (ws : List (List ℕ)) → noWords ws ≡ sameFolded ws []
+unfolding sameFolded
+folded-end [] = refl
+folded-end (w ∷ ws) = refl
+
+-- No word is taken from nowhere.
+pub taken-nowhere : (l k : List ℕ) (from : Key) → from ≡ Key.Not → Taken l from k Key.Not
+taken-nowhere l k from h = record { inside = tt; rest = λ ks. ap (λ (q : Key). follow l q (k ∷ ks)) (sym h) }
+
+module _ (l k : List ℕ) (from : Key) (at : ℕ) (is-at : from ≡ Key.After at) (w : List ℕ) (is-w : w ≡ firstWord (words (drop at l))) where
+  other : same (map lower w) k ≡ false → (ks : List (List ℕ)) → Front l at → sameFolded (words (drop at l)) (k ∷ ks) ≡ false
+  other h ks (nothing is) = ap (λ (ws : List (List ℕ)). sameFolded ws (k ∷ ks)) is ∙ folded-nil k ks
+  other h ks (word x v is) =
+      let q : w ≡ x ∷ v = is-w ∙ ap firstWord is in
+      ap (λ (ws : List (List ℕ)). sameFolded ws (k ∷ ks)) is ∙ folded-cons (x ∷ v) k (words (drop (pastWord l at) l)) ks
+      ∙ ap (λ (b : Bool). b && sameFolded (words (drop (pastWord l at) l)) ks) (ap (λ (u : List ℕ). same (map lower u) k) (sym q) ∙ h)
+
+  missing : length w ≡ 0 → (ks : List (List ℕ)) → Front l at → sameFolded (words (drop at l)) (k ∷ ks) ≡ false
+  missing h ks (nothing is) = ap (λ (ws : List (List ℕ)). sameFolded ws (k ∷ ks)) is ∙ folded-nil k ks
+  missing h ks (word x v is) = let q : w ≡ x ∷ v = is-w ∙ ap firstWord is in absurd (zero-one (omega (arith, ap length q)))
+
+  found : (length w ≡ 0 → ⊥) → same (map lower w) k ≡ true → (ks : List (List ℕ)) → Front l at → sameFolded (words (drop at l)) (k ∷ ks) ≡ sameFolded (words (drop (pastWord l at) l)) ks
+  found ne h ks (nothing is) = absurd (ne (ap length (is-w ∙ ap firstWord is)))
+  found ne h ks (word x v is) =
+      let q : w ≡ x ∷ v = is-w ∙ ap firstWord is in
+      ap (λ (ws : List (List ℕ)). sameFolded ws (k ∷ ks)) is ∙ folded-cons (x ∷ v) k (words (drop (pastWord l at) l)) ks
+      ∙ ap (λ (b : Bool). b && sameFolded (words (drop (pastWord l at) l)) ks) (ap (λ (u : List ℕ). same (map lower u) k) (sym q) ∙ h)
+
+  at-from : (ks : List (List ℕ)) → sameFolded (words (drop at l)) ks ≡ follow l from ks
+  at-from ks = ap (λ (q : Key). follow l q ks) (sym is-at)
+
+  pub taken-missing : length w ≡ 0 → Taken l from k Key.Not
+  taken-missing h = record { inside = tt; rest = λ ks. sym (missing h ks (front l at)) ∙ at-from (k ∷ ks) }
+
+  pub taken-other : same (map lower w) k ≡ false → Taken l from k Key.Not
+  taken-other h = record { inside = tt; rest = λ ks. sym (other h ks (front l at)) ∙ at-from (k ∷ ks) }
+
+  pub taken : (length w ≡ 0 → ⊥) → same (map lower w) k ≡ true → (e : ℕ) → e ≡ pastWord l at → e ≤ length l → Taken l from k (Key.After e)
+  taken ne h e q le = record {
+    inside = le;
+    rest = λ ks. ap (λ (j : ℕ). sameFolded (words (drop j l)) ks) q ∙ sym (found ne h ks (front l at)) ∙ at-from (k ∷ ks);
+  }
+
+pub ended-nowhere : (l : List ℕ) (from : Key) → from ≡ Key.Not → false ≡ follow l from []
+ended-nowhere l from h = ap (λ (q : Key). follow l q []) (sym h)
+
+pub ended-at : (l : List ℕ) (from : Key) (at : ℕ) → from ≡ Key.After at → noWords (words (drop at l)) ≡ follow l from []
+ended-at l from at h = folded-end (words (drop at l)) ∙ ap (λ (q : Key). follow l q []) (sym h)
+
+pub within-at : (l : List ℕ) (from : Key) (at : ℕ) → from ≡ Key.After at → within l from → at ≤ length l
+within-at l from at h i = subst (within l) h i
+
+-- A header line by its first word and the words after it.
+module _ (ks : List (List ℕ)) (l : List ℕ) where
+  pub header-blank : begins l ≡ false → header ks l ≡ false
+  unfolding header
+  header-blank h = ap (λ (b : Bool). b && headerWords ks (words l)) h
+
+  by-words : Front l 0 → headerWords ks (words l) ≡ (same (firstWord (words l)) (bytes "%%MatrixMarket") && sameFolded (words (drop (pastWord l 0) l)) ks)
+  unfolding headerWords same
+  by-words (nothing is) = rw is
+  by-words (word x v is) = rw is
+
+  module _ (h : begins l ≡ true) (w : List ℕ) (is-w : w ≡ firstWord (words l)) (b : Bool) (first : same w (bytes "%%MatrixMarket") ≡ b) where
+    pub header-by : header ks l ≡ (b && sameFolded (words (drop (pastWord l 0) l)) ks)
+    unfolding header
+    header-by =
+        ap (λ (c : Bool). c && headerWords ks (words l)) h ∙ by-words (front l 0)
+        ∙ ap (λ (c : Bool). c && sameFolded (words (drop (pastWord l 0) l)) ks) (ap (λ (v : List ℕ). same v (bytes "%%MatrixMarket")) (sym is-w) ∙ first)

@@ -1,0 +1,19 @@
+-- `text::is_comment` meets its contract.
+use denote.Ref.{now}
+use mathlib.Core.Path.{sym}
+use Rattle.text.proofs.Headers.{comment-empty, comment-at}
+use borrow.Author.Needs.{needs}
+use Rattle.text.proofs.is_comment.Statement.{statement}
+use Rattle.text.proofs.is_comment.Tie as tie
+
+returns : tie.Need-returns
+returns c = sym (comment-empty (now (c .before .args .line)) (c .if1 .taken))
+
+shared-slice-read-result : tie.Need-shared-slice-read-result
+shared-slice-read-result c = search needs
+
+returns-2 : tie.Need-returns-2
+returns-2 c = comment-at (now (c .before .before .args .line)) (c .before .if1 .left)
+
+pub is-comment-spec : {M : Type 1} → statement M
+is-comment-spec = tie.close (tie.spec returns shared-slice-read-result returns-2)

@@ -1,0 +1,74 @@
+-- `text::read_natural` meets its contract: the digits read make the number so far. The measure is what is left of the word.
+use Prim.Native.Nat.{_-_}
+use mathlib.Core.Path.{sym}
+use borrow.Author.Needs.{needs}
+use native.Mathlib.Omega.{arith}
+use lib.ListN.{length}
+use Rattle.text.proofs.Digits.{Reading, natural-short, natural-long, reading-starts, reading-small, reading-low, reading-high, reading-more, reading-end}
+use Rattle.text.proofs.read_natural.Statement.{statement}
+use Rattle.text.proofs.read_natural.Tie as tie
+
+abbrev Inv-loop : tie.InvT-loop
+Inv-loop w n₀ i₀ n i = Reading w n i
+
+abbrev μ-loop : tie.MeasureT-loop
+μ-loop w n₀ i₀ n i = length w - i
+
+returns : tie.Need-returns Inv-loop μ-loop
+returns c = sym (natural-short _ (c .if1 .taken))
+
+returns-2 : tie.Need-returns-2 Inv-loop μ-loop
+returns-2 c = sym (natural-long _ (c .if2 .taken))
+
+loop-holds : tie.Need-loop-holds Inv-loop μ-loop
+loop-holds c = reading-starts _ (c .before .if1 .left) (c .if2 .left)
+
+shared-slice-read-d : tie.Need-shared-slice-read-d Inv-loop μ-loop
+shared-slice-read-d c = search needs
+
+returns-3 : tie.Need-returns-3 Inv-loop μ-loop
+returns-3 c = sym (reading-low _ _ _ (c .before .before .before .loop .inv) (c .before .before .loop-test .taken) (c .if3 .taken))
+
+returns-4 : tie.Need-returns-4 Inv-loop μ-loop
+returns-4 c = sym (reading-high _ _ _ (c .before .before .before .before .loop .inv) (c .before .before .before .loop-test .taken) (c .if4 .taken))
+
+mul-n : tie.Need-mul-n Inv-loop μ-loop
+mul-n c = omega (arith, reading-small _ _ _ (c .before .before .before .before .loop .inv) (c .before .before .before .loop-test .taken))
+
+cast-n : tie.Need-cast-n Inv-loop μ-loop
+cast-n c = search needs
+
+add-n : tie.Need-add-n Inv-loop μ-loop
+add-n c = omega (arith, reading-small _ _ _ (c .before .before .before .before .loop .inv) (c .before .before .before .loop-test .taken))
+
+add-i : tie.Need-add-i Inv-loop μ-loop
+add-i c = search needs
+
+loop-less : tie.Need-loop-less Inv-loop μ-loop
+loop-less c = search needs
+
+loop-again : tie.Need-loop-again Inv-loop μ-loop
+loop-again c = reading-more _ _ _ (c .before .before .before .before .loop .inv) (c .before .before .before .loop-test .taken) (c .before .if3 .left) (c .if4 .left)
+
+returns-5 : tie.Need-returns-5 Inv-loop μ-loop
+returns-5 c = sym (reading-end _ _ _ (c .before .loop .inv) (c .loop-test .left))
+
+pub read-natural-spec : {M : Type 1} → statement M
+read-natural-spec =
+    tie.close
+    (tie.spec
+    Inv-loop
+    μ-loop
+    returns
+    returns-2
+    loop-holds
+    shared-slice-read-d
+    returns-3
+    returns-4
+    mul-n
+    cast-n
+    add-n
+    add-i
+    loop-less
+    loop-again
+    returns-5)

@@ -1,0 +1,4 @@
+pub mod Over
+pub mod Put
+pub mod Lines
+pub mod Subgraph

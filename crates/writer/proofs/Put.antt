@@ -1,0 +1,77 @@
+-- What `clear`, `put_number` and `put_bytes` write.
+use mathlib.Core.Path.{_≡_, refl, sym, ap, _∙_}
+use mathlib.Core.List.{List, [], _∷_, _++_, append-nil}
+use Prim.Native.Nat.{ℕ, _+_, _/_, _%_, _^_, _≤_, _<_}
+use native.Mathlib.Nat.{lt-of-lt-of-le}
+use native.Mathlib.Numerals.{add-one}
+use native.Mathlib.Omega.{arith}
+use lib.Dec.{lit≤}
+use lib.ListN.{length, take, drop, getD, set, replicate, drop-of-length-le}
+use lib.Seq.{take-suc, take-all, length-take-le}
+use Rattle.layout.specs.Text.{decimal}
+use Rattle.readback.proofs.Digits.{decimal-short, decimal-long, decimal-few}
+use Rattle.writer.specs.Written.{Puts, over}
+use Rattle.writer.proofs.Over.{puts-none, puts-byte, puts-same}
+
+-- ---- zeros
+
+-- Where the loop that fills d with zeros ends.
+pub zeros-end : (d l : List ℕ) (i : ℕ) → length d ≤ i → i ≤ length d → l ≡ replicate i 0 ++ drop i d → l ≡ replicate (length d) 0
+zeros-end d l i le ge e =
+    let q : i ≡ length d = omega arith in
+    e ∙ ap (λ (r : List ℕ). replicate i 0 ++ r) (drop-of-length-le d le) ∙ append-nil (replicate i 0) ∙ ap (λ (k : ℕ). replicate k 0) q
+
+-- ---- a number
+
+below-ten-ten : (n : ℕ) → n < 2 ^ 32 → n < 10 ^ 10
+below-ten-ten n h = lt-of-lt-of-le h (lit≤ tt)
+
+-- A number below 2 ^ 32 has at most 10 digits, and its tenth at most 9.
+pub ten-digits : (n : ℕ) → n < 2 ^ 32 → length (decimal n) ≤ 10
+ten-digits n h = decimal-few 9 n (below-ten-ten n h)
+
+tenth-digits : (n : ℕ) → n < 2 ^ 32 → length (decimal (n / 10)) ≤ 9
+tenth-digits n h = decimal-few 8 (n / 10) (omega (arith, below-ten-ten n h))
+
+pub number-short : (d : List ℕ) (n : ℕ) → 10 ≤ length d → n < 10 → Puts d 0 (decimal n) (set d 0 (48 + n)) 1
+number-short d n h k = puts-same (puts-byte (puts-none d 0) (48 + n) (omega arith)) (sym (decimal-short n k))
+
+module _ {d after : List ℕ} {n k : ℕ} (p : Puts d 0 (decimal (n / 10)) after k) (small : n < 2 ^ 32) where
+  pub number-at : k ≤ 9
+  number-at = omega (arith, p .place, tenth-digits n small)
+
+  pub number-long : 10 ≤ length d → 10 ≤ n → Puts d 0 (decimal n) (set after k (48 + n % 10)) (k + 1)
+  number-long h t =
+      puts-same (puts-byte p (48 + n % 10) (omega (arith, tenth-digits n small))) (sym (decimal-long n t (below-ten-ten n small)))
+
+-- ---- bytes
+
+-- The first i bytes of b have been written.
+pub record Copying (d : List ℕ) (at : ℕ) (b l : List ℕ) (i : ℕ) : Type 0 where
+  pub within : i ≤ length b
+  pub long : length l ≡ length d
+  pub puts : Puts d at (take i b) l (at + i)
+
+pub copying-starts : (d : List ℕ) (at : ℕ) (b : List ℕ) → Copying d at b d 0
+copying-starts d at b = record {
+  within = omega arith;
+  long = refl;
+  puts = record { text = puts-none d at .text; place = omega arith };
+}
+
+module _ {d : List ℕ} {at : ℕ} {b l : List ℕ} {i : ℕ} (c : Copying d at b l i) (fits : at + length b ≤ length d) where
+  pub copying-more : i < length b → length (set l (at + i) (getD b i 0)) ≡ length d → Copying d at b (set l (at + i) (getD b i 0)) (i + 1)
+  copying-more lt long = record {
+    within = omega arith;
+    long = long;
+    puts = record { text = q .text ∙ ap (over d at) t; place = omega (arith, length-take-le (i + 1) b (omega arith)) };
+  }
+    where
+      q : Puts d at (take i b ++ (getD b i 0 ∷ [])) (set l (at + i) (getD b i 0)) (at + i + 1)
+      q = puts-byte (c .puts) (getD b i 0) (omega (arith, length-take-le i b (c .within)))
+
+      t : take i b ++ (getD b i 0 ∷ []) ≡ take (i + 1) b
+      t = rw add-one (sym (take-suc b i 0 lt))
+
+  pub copying-ends : length b ≤ i → Puts d at b l (at + i)
+  copying-ends le = puts-same (c .puts) (take-all i b le)
