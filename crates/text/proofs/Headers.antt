@@ -89,6 +89,13 @@ ended-at l from at h = folded-end (words (drop at l)) ∙ ap (λ (q : Key). foll
 pub within-at : (l : List ℕ) (from : Key) (at : ℕ) → from ≡ Key.After at → within l from → at ≤ length l
 within-at l from at h i = subst (within l) h i
 
+-- Four words, one after the other.
+pub four-taken :
+    {l a b c d : List ℕ} {from first second third fourth : Key}
+    → Taken l from a first → Taken l first b second → Taken l second c third → Taken l third d fourth
+    → follow l fourth [] ≡ follow l from (a ∷ b ∷ c ∷ d ∷ [])
+four-taken {l} {a} {b} {c} {d} t u v w = w .rest [] ∙ v .rest (d ∷ []) ∙ u .rest (c ∷ d ∷ []) ∙ t .rest (b ∷ c ∷ d ∷ [])
+
 -- A header line by its first word and the words after it.
 module _ (ks : List (List ℕ)) (l : List ℕ) where
   pub header-blank : begins l ≡ false → header ks l ≡ false
@@ -100,9 +107,15 @@ module _ (ks : List (List ℕ)) (l : List ℕ) where
   by-words (nothing is) = rw is
   by-words (word x v is) = rw is
 
-  module _ (h : begins l ≡ true) (w : List ℕ) (is-w : w ≡ firstWord (words l)) (b : Bool) (first : same w (bytes "%%MatrixMarket") ≡ b) where
-    pub header-by : header ks l ≡ (b && sameFolded (words (drop (pastWord l 0) l)) ks)
+  module _ (h : begins l ≡ true) (w : List ℕ) (is-w : w ≡ firstWord (words l)) where
+    by-first : (b : Bool) → same w (bytes "%%MatrixMarket") ≡ b → (b && sameFolded (words (drop (pastWord l 0) l)) ks) ≡ header ks l
     unfolding header
-    header-by =
-        ap (λ (c : Bool). c && headerWords ks (words l)) h ∙ by-words (front l 0)
-        ∙ ap (λ (c : Bool). c && sameFolded (words (drop (pastWord l 0) l)) ks) (ap (λ (v : List ℕ). same v (bytes "%%MatrixMarket")) (sym is-w) ∙ first)
+    by-first b first =
+        sym (ap (λ (c : Bool). c && headerWords ks (words l)) h ∙ by-words (front l 0)
+        ∙ ap (λ (c : Bool). c && sameFolded (words (drop (pastWord l 0) l)) ks) (ap (λ (v : List ℕ). same v (bytes "%%MatrixMarket")) (sym is-w) ∙ first))
+
+    pub header-other : same w (bytes "%%MatrixMarket") ≡ false → false ≡ header ks l
+    header-other first = by-first false first
+
+    pub header-after : same w (bytes "%%MatrixMarket") ≡ true → (at : ℕ) → at ≡ pastWord l 0 → follow l (Key.After at) ks ≡ header ks l
+    header-after first at is-at = ap (λ (j : ℕ). sameFolded (words (drop j l)) ks) is-at ∙ by-first true first

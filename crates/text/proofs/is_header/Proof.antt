@@ -1,13 +1,8 @@
 -- `text::is_header` meets its contract.
-use mathlib.Core.Path.{sym, ap, _∙_}
+use mathlib.Core.Path.{sym, _∙_}
 use denote.Ref.{now}
-use mathlib.Core.Bool.{true, false}
-use mathlib.Core.List.{[], _∷_}
-use Prim.Native.Nat.{ℕ}
 use borrow.Author.Tests.{not-true, not-false}
-use lib.ListN.{drop}
-use Rattle.layout.specs.Text.{words, sameFolded}
-use Rattle.text.proofs.Headers.{header-blank, header-by}
+use Rattle.text.proofs.Headers.{header-blank, header-other, header-after, four-taken}
 use borrow.Author.Needs.{needs}
 use Rattle.text.proofs.is_header.Statement.{statement}
 use Rattle.text.proofs.is_header.Tie as tie
@@ -28,7 +23,7 @@ same-word-requires : tie.Need-same-word-requires
 same-word-requires c κs = search needs
 
 returns-2 : tie.Need-returns-2
-returns-2 c = sym (header-by _ (now (c .before .before .before .before .before .before .before .before .before .before .before .args .line)) (sym (c .before .before .before .before .before .word-first .ensures) ∙ not-false _ (c .before .before .before .before .if1 .left)) _ (c .before .before .before .word .ensures) false (sym (c .before .same-word .ensures) ∙ not-true _ (c .if2 .taken)))
+returns-2 c = header-other _ (now (c .before .before .before .before .before .before .before .before .before .before .before .args .line)) (sym (c .before .before .before .before .before .word-first .ensures) ∙ not-false _ (c .before .before .before .before .if1 .left)) _ (c .before .before .before .word .ensures) (sym (c .before .same-word .ensures) ∙ not-true _ (c .if2 .taken))
 
 past-word-requires : tie.Need-past-word-requires
 past-word-requires c κs = search needs
@@ -49,7 +44,7 @@ ended-requires : tie.Need-ended-requires
 ended-requires c κs = search needs
 
 returns-3 : tie.Need-returns-3
-returns-3 c = c .ended .ensures ∙ c .before .keyword4 .ensures .rest [] ∙ c .before .before .keyword3 .ensures .rest (now (c .before .before .before .before .before .before .before .before .before .before .before .before .before .before .before .before .before .args .d) ∷ []) ∙ c .before .before .before .keyword2 .ensures .rest (now (c .before .before .before .before .before .before .before .before .before .before .before .before .before .before .before .before .before .args .c) ∷ now (c .before .before .before .before .before .before .before .before .before .before .before .before .before .before .before .before .before .args .d) ∷ []) ∙ c .before .before .before .before .keyword .ensures .rest (now (c .before .before .before .before .before .before .before .before .before .before .before .before .before .before .before .before .before .args .b) ∷ now (c .before .before .before .before .before .before .before .before .before .before .before .before .before .before .before .before .before .args .c) ∷ now (c .before .before .before .before .before .before .before .before .before .before .before .before .before .before .before .before .before .args .d) ∷ []) ∙ ap (λ (j : ℕ). sameFolded (words (drop j (now (c .before .before .before .before .before .before .before .before .before .before .before .before .before .before .before .before .before .args .line)))) (now (c .before .before .before .before .before .before .before .before .before .before .before .before .before .before .before .before .before .args .a) ∷ now (c .before .before .before .before .before .before .before .before .before .before .before .before .before .before .before .before .before .args .b) ∷ now (c .before .before .before .before .before .before .before .before .before .before .before .before .before .before .before .before .before .args .c) ∷ now (c .before .before .before .before .before .before .before .before .before .before .before .before .before .before .before .before .before .args .d) ∷ [])) (c .before .before .before .before .before .past-word .ensures .0) ∙ sym (header-by _ (now (c .before .before .before .before .before .before .before .before .before .before .before .before .before .before .before .before .before .args .line)) (sym (c .before .before .before .before .before .before .before .before .before .before .before .word-first .ensures) ∙ not-false _ (c .before .before .before .before .before .before .before .before .before .before .if1 .left)) _ (c .before .before .before .before .before .before .before .before .before .word .ensures) true (sym (c .before .before .before .before .before .before .before .same-word .ensures) ∙ not-false _ (c .before .before .before .before .before .before .if2 .left)))
+returns-3 c = c .ended .ensures ∙ four-taken (c .before .before .before .before .keyword .ensures) (c .before .before .before .keyword2 .ensures) (c .before .before .keyword3 .ensures) (c .before .keyword4 .ensures) ∙ header-after _ (now (c .before .before .before .before .before .before .before .before .before .before .before .before .before .before .before .before .before .args .line)) (sym (c .before .before .before .before .before .before .before .before .before .before .before .word-first .ensures) ∙ not-false _ (c .before .before .before .before .before .before .before .before .before .before .if1 .left)) _ (c .before .before .before .before .before .before .before .before .before .word .ensures) (sym (c .before .before .before .before .before .before .before .same-word .ensures) ∙ not-false _ (c .before .before .before .before .before .before .if2 .left)) _ (c .before .before .before .before .before .past-word .ensures .0)
 
 pub is-header-spec : {M : Type 1} → statement M
 is-header-spec =

@@ -1,0 +1,34 @@
+-- One law for every loop that searches for the lowest item that breaks a test.
+use Prim.Native.Nat.{ℕ, _+_, _≤_, _<_}
+use mathlib.Core.Path.{_≡_, sym, ap, _∙_}
+use mathlib.Core.Bool.{Bool, true, false}
+use mathlib.Core.Option.{none, some}
+use native.Mathlib.Omega.{arith}
+use borrow.Author.Count.{below-none, below-more}
+use Rattle.graph.specs.Refusal.{lowest}
+use Rattle.graph.proofs.Passing.{none-lowest, some-lowest}
+use Rattle.checks.specs.declared.Lowest.{Lowest}
+use Rattle.checks.specs.Checks.{lowestSays}
+
+-- Of n items, each below i keeps the test f.
+pub record Kept (n : ℕ) (f : ℕ → Bool) (i : ℕ) : Type 0 where
+  pub within : i ≤ n
+  pub before : (k : ℕ) → k < i → f k ≡ true
+
+module _ {n : ℕ} {f : ℕ → Bool} where
+  pub kept-none : Kept n f 0
+  kept-none = record { within = omega arith; before = below-none (λ k. f k ≡ true) }
+
+  module _ {i : ℕ} (K : Kept n f i) where
+    pub kept-more : i < n → f i ≡ true → Kept n f (i + 1)
+    kept-more l e = record { within = omega arith; before = below-more (λ k. f k ≡ true) i (K .before) e }
+
+    pub kept-broken : i < n → f i ≡ false → some i ≡ lowest n f
+    kept-broken l e = sym (some-lowest n f i (record { among = l; breaks = e; before = K .before }))
+
+    pub kept-all : n ≤ i → none ≡ lowest n f
+    kept-all l = sym (none-lowest n f (λ k b. K .before k (omega arith)))
+
+-- A search over n items, which are k, has answered r, which is m.
+pub says : (f : ℕ → Bool) {r m : Lowest} {n k : ℕ} → lowestSays r ≡ lowest n f → r ≡ m → n ≡ k → lowest k f ≡ lowestSays m
+says f {r} {m} {n} {k} e i j = sym (ap (λ l. lowest l f) j) ∙ sym e ∙ ap lowestSays i

@@ -1,0 +1,50 @@
+-- The loop keeps: each mark before e is 0 or 1.
+use Prim.Native.Nat.{_-_}
+use native.Mathlib.Omega.{arith}
+use lib.ListN.{length, getD}
+use lib.Dec.{leb}
+use borrow.Author.Tests.{le-leb, lt-leb}
+use Rattle.checks.proofs.Scan.{Kept, kept-none, kept-more, kept-broken, kept-all}
+use Rattle.checks.proofs.lowest_mark.Statement.{statement}
+use Rattle.checks.proofs.lowest_mark.Tie as tie
+
+abbrev Inv-loop : tie.InvT-loop
+Inv-loop chosen e₀ e = Kept (length chosen) (λ k. leb (getD chosen k 0) 1) e
+
+abbrev μ-loop : tie.MeasureT-loop
+μ-loop chosen e₀ e = length chosen - e
+
+loop-holds : tie.Need-loop-holds Inv-loop μ-loop
+loop-holds c = kept-none
+
+shared-slice-read-if1 : tie.Need-shared-slice-read-if1 Inv-loop μ-loop
+shared-slice-read-if1 c = omega arith
+
+add-e : tie.Need-add-e Inv-loop μ-loop
+add-e c = omega arith
+
+loop-less : tie.Need-loop-less Inv-loop μ-loop
+loop-less c = omega arith
+
+loop-again : tie.Need-loop-again Inv-loop μ-loop
+loop-again c = kept-more (c .before .before .before .loop .inv) (c .before .before .loop-test .taken) (le-leb (getD (c .before .before .before .before .args .chosen .now) (c .before .before .before .loop .e) 0) 1 (omega arith))
+
+returns : tie.Need-returns Inv-loop μ-loop
+returns c = kept-broken (c .before .before .before .loop .inv) (c .before .before .loop-test .taken) (lt-leb (getD (c .before .before .before .before .args .chosen .now) (c .before .before .before .loop .e) 0) 1 (omega arith))
+
+returns-2 : tie.Need-returns-2 Inv-loop μ-loop
+returns-2 c = kept-all (c .before .loop .inv) (c .loop-test .left)
+
+pub lowest-mark-spec : {M : Type 1} → statement M
+lowest-mark-spec =
+    tie.close
+    (tie.spec
+    Inv-loop
+    μ-loop
+    loop-holds
+    shared-slice-read-if1
+    add-e
+    loop-less
+    loop-again
+    returns
+    returns-2)

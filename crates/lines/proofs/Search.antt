@@ -1,0 +1,92 @@
+-- The loop that looks for the next line that counts, on plain values.
+use mathlib.Core.Path.{_≡_, refl, sym, ap, ap₂, _∙_, subst}
+use mathlib.Core.Bool.{Bool, true, false, cond, _||_}
+use mathlib.Core.List.{List, [], _∷_}
+use Prim.Native.Nat.{ℕ, _+_, _-_, _≤_, _<_}
+use native.Mathlib.Omega.{arith}
+use borrow.Author.Tests.{le-leb, lt-leb}
+use lib.ListN.{length, take, drop}
+use Rattle.layout.specs.Text.{lines, lineFits, blankLine, commentLine}
+use Rattle.text.specs.declared.Cursor.{Cursor}
+use Rattle.text.proofs.Lined.{Lined}
+use Rattle.text.proofs.Pieces.{lines-none}
+use Rattle.lines.specs.Found.{at, ended, long, nextData, skips, Inside, FoundInside}
+use Rattle.lines.specs.declared.Skipped.{Skipped}
+use Rattle.lines.specs.declared.Skipped.the-variants as Skipped
+use Rattle.lines.specs.declared.FoundLine.{FoundLine}
+use Rattle.lines.specs.declared.FoundLine.the-variants as FoundLine
+
+-- What an answer that found a line says of its places.
+pub inside : (s : List ℕ) (c : Cursor) (r : FoundLine) (start end : ℕ) (next : Cursor) → FoundInside s c r → r ≡ FoundLine.At start end next → Inside s c start end next
+inside s c r start end next i is = subst (FoundInside s c) is i
+
+-- What is skipped, by the answers of the tests.
+module _ (what : Skipped) (l : List ℕ) where
+  pub skips-both : what ≡ Skipped.BlankAndComment → blankLine l ≡ true → true ≡ skips what l
+  skips-both is h = sym (ap (λ (b : Bool). b || commentLine l) h) ∙ ap (λ (k : Skipped). skips k l) (sym is)
+
+  pub skips-comment : what ≡ Skipped.BlankAndComment → blankLine l ≡ false → (b : Bool) → b ≡ commentLine l → b ≡ skips what l
+  skips-comment is h b q = q ∙ sym (ap (λ (b : Bool). b || commentLine l) h) ∙ ap (λ (k : Skipped). skips k l) (sym is)
+
+  pub skips-blank : what ≡ Skipped.Blank → (b : Bool) → b ≡ blankLine l → b ≡ skips what l
+  skips-blank is b q = q ∙ ap (λ (k : Skipped). skips k l) (sym is)
+
+module _ (skip : List ℕ → Bool) where
+  data-nil : (k : ℕ) → nextData skip k [] ≡ ended k
+  unfolding nextData
+  data-nil k = refl
+
+  data-cons : (k : ℕ) (l : List ℕ) (ls : List (List ℕ)) → nextData skip k (l ∷ ls) ≡ cond (lineFits l) (cond (skip l) (nextData skip (k + 1) ls) (at k l ls)) (long k)
+  unfolding nextData
+  data-cons k l ls = refl
+
+  -- The invariant: the search from `from` is the search from the cursor c on.
+  pub record Search (s : List ℕ) (from c : Cursor) : Type 0 where
+    pub behind : c .line ≤ c .at
+    pub reach : c .at ≤ length s + 1
+    pub onward : from .at ≤ c .at
+    pub whole : nextData skip (c .line + 1) (lines (drop (c .at) s)) ≡ nextData skip (from .line + 1) (lines (drop (from .at) s))
+
+  module _ (s : List ℕ) (from c : Cursor) (h : Search s from c) where
+    pub search-ends : length s ≤ c .at → ended (c .line + 1) ≡ nextData skip (from .line + 1) (lines (drop (from .at) s))
+    search-ends le = sym (ap (nextData skip (c .line + 1)) (lines-none s (c .at) le) ∙ data-nil (c .line + 1)) ∙ h .whole
+
+    module _ (a e : ℕ) (d : Cursor) (g : Lined s c a e d) where
+      abbrev line : List ℕ
+      line = take (e - a) (drop a s)
+
+      abbrev others : List (List ℕ)
+      others = lines (drop (d .at) s)
+
+      step : (fits skipped : Bool) → lineFits line ≡ fits → skip line ≡ skipped
+          → cond fits (cond skipped (nextData skip (c .line + 1 + 1) others) (at (c .line + 1) line others)) (long (c .line + 1)) ≡ nextData skip (from .line + 1) (lines (drop (from .at) s))
+      step fits skipped p q =
+          ap₂ (λ (x y : Bool). cond x (cond y (nextData skip (c .line + 1 + 1) others) (at (c .line + 1) line others)) (long (c .line + 1))) (sym p) (sym q)
+          ∙ sym (ap (nextData skip (c .line + 1)) (g .front) ∙ data-cons (c .line + 1) line others) ∙ h .whole
+
+      pub search-long : 1024 < length line → long (c .line + 1) ≡ nextData skip (from .line + 1) (lines (drop (from .at) s))
+      search-long lt = step false (skip line) (lt-leb (length line) 1024 lt) refl
+
+      module _ (le : length line ≤ 1024) where
+        pub search-finds : skip line ≡ false → at (d .line) line others ≡ nextData skip (from .line + 1) (lines (drop (from .at) s))
+        search-finds q = ap (λ (k : ℕ). at k line others) (g .next-line) ∙ step true false (le-leb (length line) 1024 le) q
+
+        pub search-more : skip line ≡ true → Search s from d
+        search-more q = record {
+          behind = omega (arith, h .behind, g .next-at, g .next-line, g .starts, g .forward);
+          reach = omega (arith, g .next-at, g .inside);
+          onward = omega (arith, h .onward, g .next-at, g .starts, g .forward);
+          whole = ap (λ (k : ℕ). nextData skip (k + 1) others) (g .next-line) ∙ step true true (le-leb (length line) 1024 le) q;
+        }
+
+      pub search-inside : Inside s from a e d
+      search-inside = record {
+        forward = g .forward;
+        ends = g .inside;
+        behind = omega (arith, h .behind, g .next-at, g .next-line, g .starts, g .forward);
+        reach = omega (arith, g .next-at, g .inside);
+        onward = omega (arith, h .onward, g .next-at, g .starts, g .forward);
+      }
+
+      pub search-falls : length s + 1 - d .at < length s + 1 - c .at
+      search-falls = omega (arith, g .next-at, g .starts, g .forward, g .more)
