@@ -1,6 +1,6 @@
 -- One step of the walk back: after the flip the walk can go on from the edge's other end, and what it then does makes the whole walk.
-use Prim.Native.Nat.{ℕ, _+_, _*_, _-_, _≤_, _<_}
-use mathlib.Core.Path.{_≡_, refl, sym, ap, _∙_, subst}
+use Prim.Native.Nat.{ℕ, _+_, _-_, _≤_, _<_}
+use mathlib.Core.Path.{_≡_, refl, sym, ap, _∙_}
 use mathlib.Core.Logic.{_≢_}
 use mathlib.Core.List.{List}
 use native.Mathlib.Omega.{arith}
@@ -9,10 +9,9 @@ use lib.ListN.{length, getD, set, length-set}
 use lib.Seq.{getD-set-same, getD-set-other}
 use Rattle.integers.specs.Sum.{is}
 use Rattle.graph.specs.declared.Kind.{Kind}
-use Rattle.graph.specs.declared.Kind.the-variants.{Bipartite}
-use Rattle.graph.specs.Graph.{Graph, vertices, columnVertex, firstEnd, secondEnd}
+use Rattle.graph.specs.Graph.{Graph, columnVertex, firstEnd, secondEnd}
 use Rattle.graph.specs.Subgraph.{markAt, degree}
-use Rattle.method.specs.Method.{Network, Link, Labels, Augmented}
+use Rattle.method.specs.Method.{Link, Labels, Augmented}
 use Rattle.augment.specs.Augment.{Ready, Flipped}
 use Rattle.augment.proofs.Degree.{degree-off, degree-on}
 

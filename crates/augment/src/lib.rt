@@ -1,7 +1,6 @@
 // The walk back along an augmenting path.
 ghost use Prim.Native.Nat.{_+_, _-_, _<_, _≤_};
-ghost use mathlib.Core.Path.{_≡_};
-ghost use lib.ListN.{length, getD, set};
+ghost use lib.ListN.{length, getD};
 ghost use Rattle.graph.specs.Graph.{Graph};
 ghost use Rattle.method.specs.Method.{Augmented};
 ghost use Rattle.augment.specs.Augment.{Ready, Flipped};

@@ -146,13 +146,13 @@ textFits text = leb (length text) 32768
 abbrev pub lineFits : List ℕ → Bool
 lineFits l = leb (length l) 1024
 
--- How a number is written: its digits, with no leading zero. A number below 10 ^ k has at most k digits.
+-- How a number is written: its digits, with no leading zero. A number below 10 ^ k has at most k digits; one of 64 bits has at most 20.
 unfoldable pub digits : ℕ → ℕ → List ℕ
 digits zero n = []
 digits (suc k) n = cond (ltb n 10) ((48 + n) ∷ []) (digits k (n / 10) ++ ((48 + n % 10) ∷ []))
 
 abbrev pub decimal : ℕ → List ℕ
-decimal n = digits 10 n
+decimal n = digits 20 n
 
 -- Words with one blank between them, and lines with byte 10 after each.
 unfoldable pub spaced : List (List ℕ) → List ℕ

@@ -40,10 +40,10 @@ digits-room (suc k) n h = go (ltb n 10) refl (digits-room k (n / 10) (tenth (suc
 
 -- The digits of n are those of its tenth, and one more.
 pub decimal-short : (n : ℕ) → n < 10 → decimal n ≡ (48 + n) ∷ []
-decimal-short n h = digits-short 9 n h
+decimal-short n h = digits-short 19 n h
 
-pub decimal-long : (n : ℕ) → 10 ≤ n → n < 10 ^ 10 → decimal n ≡ decimal (n / 10) ++ ((48 + n % 10) ∷ [])
-decimal-long n h k = digits-long 9 n h ∙ ap (λ (l : List ℕ). l ++ ((48 + n % 10) ∷ [])) (sym (digits-room 8 (n / 10) (tenth 9 n k)))
+pub decimal-long : (n : ℕ) → 10 ≤ n → n < 10 ^ 20 → decimal n ≡ decimal (n / 10) ++ ((48 + n % 10) ∷ [])
+decimal-long n h k = digits-long 19 n h ∙ ap (λ (l : List ℕ). l ++ ((48 + n % 10) ∷ [])) (sym (digits-room 18 (n / 10) (tenth 19 n k)))
 
 -- A number below 10 ^ suc j has at most suc j digits, whatever the room.
 digits-few : (k j n : ℕ) → n < 10 ^ suc j → length (digits k n) ≤ suc j
@@ -56,14 +56,14 @@ digits-few (suc k) (suc j) n h = go (ltb n 10) refl (digits-few k j (n / 10) (te
     go false is ih = omega (arith, ap length (digits-long k n (ltb-false n 10 is)), length-append (digits k (n / 10)) ((48 + n % 10) ∷ []))
 
 pub decimal-few : (j n : ℕ) → n < 10 ^ suc j → length (decimal n) ≤ suc j
-decimal-few j n h = digits-few 10 j n h
+decimal-few j n h = digits-few 20 j n h
 
 pub decimal-some : (n : ℕ) → 1 ≤ length (decimal n)
 decimal-some n = go (ltb n 10) refl
   where
     go : (b : Bool) → ltb n 10 ≡ b → 1 ≤ length (decimal n)
-    go true is = omega (arith, ap length (digits-short 9 n (ltb-true n 10 is)))
-    go false is = omega (arith, ap length (digits-long 9 n (ltb-false n 10 is)), length-append (digits 9 (n / 10)) ((48 + n % 10) ∷ []))
+    go true is = omega (arith, ap length (digits-short 19 n (ltb-true n 10 is)))
+    go false is = omega (arith, ap length (digits-long 19 n (ltb-false n 10 is)), length-append (digits 19 (n / 10)) ((48 + n % 10) ∷ []))
 
 -- ---- reading them
 
@@ -123,4 +123,4 @@ pub number-back : (n : ℕ) → n < 10 ^ 9 → natural (decimal n) ≡ some n
 unfolding natural
 number-back n h =
     simp (le-leb 1 (length (decimal n)) (decimal-some n), le-leb (length (decimal n)) 9 (decimal-few 8 n h))
-    (digits-read 10 n (omega arith))
+    (digits-read 20 n (omega arith))

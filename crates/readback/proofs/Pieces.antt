@@ -98,13 +98,13 @@ module _ (p : ℕ → Bool) (none-of : (d : ℕ) → d < 10 → p (48 + d) ≡ f
       go false is ih = let m : n % 10 < 10 = omega arith in free-append p (digits k (n / 10)) ((48 + n % 10) ∷ []) ih (none-of (n % 10) m, tt)
 
 pub decimal-no-newline : (n : ℕ) → Free newline (decimal n)
-decimal-no-newline n = digits-free newline (λ d h. ne-eqb (48 + d) 10 (omega arith)) 10 n
+decimal-no-newline n = digits-free newline (λ d h. ne-eqb (48 + d) 10 (omega arith)) 20 n
 
 pub decimal-no-percent : (n : ℕ) → Free (λ x. eqb x 37) (decimal n)
-decimal-no-percent n = digits-free (λ x. eqb x 37) (λ d h. ne-eqb (48 + d) 37 (omega arith)) 10 n
+decimal-no-percent n = digits-free (λ x. eqb x 37) (λ d h. ne-eqb (48 + d) 37 (omega arith)) 20 n
 
 pub decimal-no-blank : (n : ℕ) → Free blank (decimal n)
-decimal-no-blank n = digits-free blank (λ d h. simp (ne-eqb (48 + d) 32 (omega arith), ne-eqb (48 + d) 9 (omega arith))) 10 n
+decimal-no-blank n = digits-free blank (λ d h. simp (ne-eqb (48 + d) 32 (omega arith), ne-eqb (48 + d) 9 (omega arith))) 20 n
 
 -- ---- a line that is written out has no byte 10 if a test says so
 

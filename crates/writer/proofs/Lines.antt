@@ -74,8 +74,8 @@ field d at m {ys} {k} room small p =
     }
 
 -- There is room for another number after the blank.
-pub field-room : {d : List ℕ} {at m : ℕ} {l : List ℕ} {k : ℕ} → Field d at m l k → at + 21 ≤ length d
-    → 10 ≤ length (take (length (set l (at + k) 32) - (at + k + 1)) (drop (at + k + 1) (set l (at + k) 32)))
+pub field-room : {d : List ℕ} {at m : ℕ} {l : List ℕ} {k : ℕ} → Field d at m l k → at + 31 ≤ length d
+    → 20 ≤ length (take (length (set l (at + k) 32) - (at + k + 1)) (drop (at + k + 1) (set l (at + k) 32)))
 field-room {at = at} {l = l} {k = k} f h = omega (arith, part-long (set l (at + k) 32) (at + k + 1), f .blanked, f .short)
 
 -- ---- a line of two numbers
@@ -86,7 +86,7 @@ pub record Pair (d : List ℕ) (at m n : ℕ) (l : List ℕ) (e : ℕ) : Type 0 
   pub long : length l ≡ length d
   pub puts : Puts d at (unlines (spaced (decimal m ∷ decimal n ∷ []) ∷ [])) (set l e 10) (e + 1)
 
-pub pair : {d : List ℕ} {at m n : ℕ} {l zs : List ℕ} {k j : ℕ} → at + 22 ≤ length d → m < 2 ^ 32 → n < 2 ^ 32 → Field d at m l k
+pub pair : {d : List ℕ} {at m n : ℕ} {l zs : List ℕ} {k j : ℕ} → at + 32 ≤ length d → m < 2 ^ 32 → n < 2 ^ 32 → Field d at m l k
     → Puts (take (length (set l (at + k) 32) - (at + k + 1)) (drop (at + k + 1) (set l (at + k) 32))) 0 (decimal n) zs j
     → Pair d at m n (putMid (at + k + 1) (length (set l (at + k) 32) - (at + k + 1)) (set l (at + k) 32) zs) (at + k + 1 + j)
 pair {d} {at} {m} {n} {l} {zs} {k} {j} room hm hn f q =
@@ -105,7 +105,7 @@ pair {d} {at} {m} {n} {l} {zs} {k} {j} room hm hn f q =
 
 -- ---- the size line
 
-pub sizes-put : {d : List ℕ} {at m n o : ℕ} {d₂ d₃ : List ℕ} {b e : ℕ} → at + 33 ≤ length d → m < 2 ^ 32 → n < 2 ^ 32 → o < 2 ^ 32
+pub sizes-put : {d : List ℕ} {at m n o : ℕ} {d₂ d₃ : List ℕ} {b e : ℕ} → at + 43 ≤ length d → m < 2 ^ 32 → n < 2 ^ 32 → o < 2 ^ 32
     → Puts d at (decimal m ++ (32 ∷ [])) d₂ b → Puts d₂ b (unlines (spaced (decimal n ∷ decimal o ∷ []) ∷ [])) d₃ e
     → Puts d at (unlines (spaced (decimal m ∷ decimal n ∷ decimal o ∷ []) ∷ [])) d₃ e
 sizes-put {m = m} {n = n} {o = o} room hm hn ho p q =

@@ -42,7 +42,7 @@ chosen-same g h p q x (suc n) =
 pub record Writing (row column x d : List ℕ) (start : ℕ) (l : List ℕ) (at n : ℕ) : Type 0 where
   pub within : n ≤ length row
   pub long : length l ≡ length d
-  pub begun : start + 8214 ≤ length d
+  pub begun : start + 8224 ≤ length d
   pub room : at ≤ start + n * 8
   pub puts : Puts d start (unlines (chosenLines (edgesOf row column) x n)) l at
 
@@ -50,7 +50,7 @@ no-lines : (g : Graph) (x : List ℕ) → [] ≡ unlines (chosenLines g x 0)
 unfolding unlines
 no-lines g x = ap unlines (sym (chosen-none g x))
 
-pub writing-starts : (row column x d : List ℕ) (start : ℕ) → start + 8214 ≤ length d → Writing row column x d start d start 0
+pub writing-starts : (row column x d : List ℕ) (start : ℕ) → start + 8224 ≤ length d → Writing row column x d start d start 0
 writing-starts row column x d start h = record {
   within = omega arith;
   long = refl;
@@ -80,7 +80,7 @@ module _ {kind : Kind} {rows columns : ℕ} {row column x : List ℕ} (w : Writa
 
   module _ {d : List ℕ} {start : ℕ} {l : List ℕ} {at n : ℕ} (s : Writing row column x d start l at n) where
     module _ (lt : n < length row) where
-      pub line-room : at + 22 ≤ length l
+      pub line-room : at + 32 ≤ length l
       line-room = omega (arith, few, s .room, s .begun, s .long)
 
       pub writing-more : {l′ : List ℕ} {at′ : ℕ} → length l′ ≡ length l
@@ -118,7 +118,7 @@ module _ {kind : Kind} {rows columns : ℕ} {row column x : List ℕ} (w : Writa
         let e : count ≡ sum (length row) (markAt x) = counted ∙ ap (λ (k : ℕ). sum k (markAt x)) (w .marks-long) in
         omega (arith, few, count-le w)
 
-    pub head-room : length d ≡ length z → start + 8214 ≤ length d
+    pub head-room : length d ≡ length z → start + 8224 ≤ length d
     head-room same =
         omega (
           arith,

@@ -24,8 +24,8 @@ fn clear(out: &mut [u8])
 }
 
 // Writes the digits of n at the start of `out`, with no leading zero. The result is their number.
-pub fn put_number(out: &mut [u8], n: u32) -> usize
-    requires { ⌜ 10 ≤ length (now out) ⌝ }
+pub fn put_number(out: &mut [u8], n: u64) -> usize
+    requires { ⌜ 20 ≤ length (now out) ⌝ }
     ensures { λ r. ⌜ Puts (now (out .entry)) 0 (decimal n) (now (out .exit)) r ⌝ }
 {
     if n < 10 {
@@ -52,23 +52,23 @@ pub fn put_bytes(out: &mut [u8], at: usize, b: &[u8]) -> usize
 
 // Writes a line of two numbers, as an edge's is, from `at` on. The result is the place after it.
 fn put_pair(out: &mut [u8], at: usize, m: u32, n: u32) -> usize
-    requires { ⌜ at + 22 ≤ length (now out) ⌝ }
+    requires { ⌜ at + 32 ≤ length (now out) ⌝ }
     ensures { λ r. ⌜ Puts (now (out .entry)) at (unlines (spaced (decimal m ∷ decimal n ∷ []) ∷ [])) (now (out .exit)) r ⌝ }
 {
-    let a = at + put_number(&mut out[at..], m);
+    let a = at + put_number(&mut out[at..], m as u64);
     out[a] = 32;
     let b = a + 1;
-    let e = b + put_number(&mut out[b..], n);
+    let e = b + put_number(&mut out[b..], n as u64);
     out[e] = 10;
     e + 1
 }
 
 // Writes the size line from `at` on. The result is the place after it.
 fn put_sizes(out: &mut [u8], at: usize, rows: u32, columns: u32, count: u32) -> usize
-    requires { ⌜ at + 33 ≤ length (now out) ⌝ }
+    requires { ⌜ at + 43 ≤ length (now out) ⌝ }
     ensures { λ r. ⌜ Puts (now (out .entry)) at (unlines (spaced (decimal rows ∷ decimal columns ∷ decimal count ∷ []) ∷ [])) (now (out .exit)) r ⌝ }
 {
-    let a = at + put_number(&mut out[at..], rows);
+    let a = at + put_number(&mut out[at..], rows as u64);
     out[a] = 32;
     put_pair(out, a + 1, columns, count)
 }
@@ -104,7 +104,7 @@ fn put_head(out: &mut [u8], kind: Kind, rows: u32, columns: u32, count: u32) -> 
 
 // Writes the line of an edge from `at` on if its mark is 1. The result is the place after it.
 fn put_edge(out: &mut [u8], at: usize, row: u32, column: u32, mark: u8) -> usize
-    requires { ⌜ at + 22 ≤ length (now out) ⌝ }
+    requires { ⌜ at + 32 ≤ length (now out) ⌝ }
     ensures { λ r. ⌜ Puts (now (out .entry)) at (unlines (edgeLines row column mark)) (now (out .exit)) r ⌝ }
 {
     if mark == 1 {

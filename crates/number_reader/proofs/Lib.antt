@@ -1,0 +1,3 @@
+pub mod OnLine
+pub mod Values
+pub mod Whole
