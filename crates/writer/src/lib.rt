@@ -13,7 +13,7 @@ ghost use Rattle.readback.specs.Accepted.{Writable};
 ghost use Rattle.writer.specs.Written.{Puts, Written, edgeLines, graphOf};
 
 // Sets every byte of `out` to 0.
-fn clear(out: &mut [u8])
+pub fn clear(out: &mut [u8])
     ensures { λ _. ⌜ now (out .exit) ≡ replicate (length (now (out .entry))) 0 ⌝ }
 {
     let mut i = 0;

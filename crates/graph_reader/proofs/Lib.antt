@@ -1,0 +1,3 @@
+pub mod OnLine
+pub mod Edges
+pub mod Whole

@@ -1,0 +1,5 @@
+pub mod Three
+pub mod Shown
+pub mod Refusing
+pub mod Counted
+pub mod Answers

@@ -1,0 +1,2 @@
+-- The laws of looking at an edge.
+pub mod Look

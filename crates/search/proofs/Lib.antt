@@ -1,0 +1,2 @@
+-- The laws of one search.
+pub mod Growth

@@ -1,0 +1,4 @@
+pub mod Tested
+pub mod OnLine
+pub mod Marks
+pub mod Whole
