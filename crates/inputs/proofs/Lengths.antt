@@ -1,13 +1,12 @@
 -- What the test of the lent lengths shows.
-use Prim.Native.Nat.{ℕ}
-use mathlib.Core.Path.{_≡_, sym, ap, _∙_}
-use mathlib.Core.Bool.{Bool, true, false, _&&_}
+use mathlib.Core.Path.{_≡_}
+use mathlib.Core.Bool.{Bool, true, _&&_}
 use mathlib.Core.List.{List, _∷_}
 use lib.Dec.{eqb}
 use lib.ListN.{length}
 use borrow.Author.Tests.{eqb-true}
 use Rattle.graph.specs.declared.Fault.the-variants.{LentLength}
-use Rattle.graph.specs.Refusal.{Outcome, yields, refuses, Test, once, passing}
+use Rattle.graph.specs.Refusal.{Outcome, yields, Test, once, passing}
 use Rattle.graph.specs.Graph.{Graph}
 use Rattle.graph.specs.Tests.{graphLengths}
 use Rattle.graph.proofs.Passing.{once-yields}

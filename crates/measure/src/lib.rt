@@ -320,7 +320,7 @@ fn total_of(
     integers::add(integers::add(vertices, odd), own)
 }
 
-// The four slacks.
+// The slacks of vertices, odd sets, edges and cover.
 struct Slacks {
     vertices: i64,
     sets: i64,
@@ -328,6 +328,7 @@ struct Slacks {
     cover: i64,
 }
 
+// The four slacks.
 fn slacks_of(
     kind: Kind,
     rows: u32,

@@ -110,7 +110,7 @@ module _ {g : Graph} {bound : List ℤ} {x : List ℕ} {price₀ price : List �
       near-long = i .near-long;
     }
 
-    -- Only a vertex with a label of its own leaves no room for one more.
+    -- While a vertex has no label, there is room for one more.
     pub room : {v : ℕ} → Network g → v < vertices g → entries (t .rank) v ≡ 0 → t .count < 128
     room {v} net l z = omega (arith, within .tree .tally, net .few, sum-term (vertices g) v (λ w. is (entries (t .rank) w) 0) l, ap (λ k. is k 0) z, is-same 0)
 
@@ -170,6 +170,7 @@ module _ {g : Graph} {bound : List ℤ} {x : List ℕ} {price₀ price price′ 
         rank-put = put-set (t .rank) v (t .count + 1) (omega (arith, a .nearest .inside, ranks-128 o i, net .few));
       }
 
+  -- The path ends at v.
   pub ends : r ≡ true → Ended g bound x (levels price₀) (levels price′) (entries (t′ .label)) (entries (t′ .rank)) root v
   ends h = ⊎-elim (λ z. at-new z) (λ s. at-row s) (eq-zero-or-pos (entries (t .rank) v))
     where
@@ -183,6 +184,7 @@ module _ {g : Graph} {bound : List ℤ} {x : List ℕ} {price₀ price price′ 
           (subst (λ k. Ended g bound x (levels price₀) (levels price′) (entries (set (t .label) v (entries near v - 1))) (entries k) root v) (sym (a .new z .1))
           (end-column net after (label z) (free o i net count (a .nearest .inside) (a .new z .3 .holds h))))
 
+  -- The labels stay as many.
   pub ends-long : length (t′ .label) ≡ 128
   ends-long = ⊎-elim (λ z. ap length (a .new z .0) ∙ length-set (t .label) v (entries near v - 1) ∙ labels-128 o i) (λ s. ap length (a .old s .0) ∙ labels-128 o i) (eq-zero-or-pos (entries (t .rank) v))
 
@@ -190,6 +192,7 @@ module _ {g : Graph} {bound : List ℤ} {x : List ℕ} {price₀ price price′ 
   fresh : r ≡ false → entries (t .rank) v ≡ 0
   fresh h = ⊎-elim (λ z. z) (λ s. absurd (subst T (sym (a .old s .2) ∙ h) tt)) (eq-zero-or-pos (entries (t .rank) v))
 
+  -- No path ends, and v is scanned next.
   pub grown : length price′ ≡ length price → r ≡ false → Growing g bound x price₀ price′ t′ near root v
   grown l h =
       let z = fresh h in

@@ -1,18 +1,17 @@
 -- What the subgraph writer yields, by the first test that refuses.
 use Prim.Native.Nat.{ℕ, _+_, _<_}
-use mathlib.Core.Path.{_≡_, refl, sym, ap, ap₂, _∙_, subst}
+use mathlib.Core.Path.{_≡_, refl, sym, ap, _∙_, subst}
 use mathlib.Core.Bool.{Bool, true, _&&_, and-assoc}
 use mathlib.Core.List.{List, [], _∷_, _++_}
-use mathlib.Core.Option.{none, some}
 use native.Mathlib.Omega.{arith}
 use native.Mathlib.Numerals.{add-one}
 use lib.Dec.{leb, eqb}
 use lib.IntN.{ℤ}
-use lib.ListN.{length, replicate}
+use lib.ListN.{length}
 use borrow.Author.Tests.{eqb-true}
 use Rattle.graph.specs.declared.Fault.the-variants.{LentLength, Mark}
 use Rattle.graph.specs.declared.Refusal.{Refusal}
-use Rattle.graph.specs.Refusal.{Outcome, yields, refuses, Test, once, lowest, passing, reported, output}
+use Rattle.graph.specs.Refusal.{Outcome, yields, refuses, once, lowest, passing, reported, output}
 use Rattle.graph.specs.Graph.{Graph, sizesInRange}
 use Rattle.graph.specs.Subgraph.{markAt}
 use Rattle.graph.specs.Tests.{graphLengths, graphTests, markTest}
@@ -28,7 +27,7 @@ use Rattle.checks.proofs.Scan.{says}
 use Rattle.inputs.proofs.Lengths.{lent-hold}
 use Rattle.layout.specs.SubgraphText.{subgraphText, writeSubgraph}
 use Rattle.readback.specs.Accepted.{Writable, Accepted}
-use Rattle.readback.proofs.Accepted.{numberTests, afterwards, writes, accepted}
+use Rattle.readback.proofs.Accepted.{numberTests, writes, accepted}
 use Rattle.writer.specs.Written.{Written}
 use Rattle.writer.specs.Written as writer
 use Rattle.subgraph_writer.specs.Tests.{writerTests}

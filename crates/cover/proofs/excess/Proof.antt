@@ -1,7 +1,9 @@
 -- The difference is taken by the mark.
+use Prim.Native.Nat.{_^_}
 use native.Mathlib.Omega.{arith}
 use borrow.Author.Needs.{needs}
-use Rattle.sums.proofs.Machine.{held-within}
+use Rattle.integers.specs.Integer.{Within}
+use Rattle.sums.proofs.Machine.{held, held-within}
 use Rattle.sums.proofs.Products.{taken}
 use Rattle.cover.proofs.Steps.{minus}
 use Rattle.cover.proofs.excess.Statement.{statement}
@@ -14,7 +16,12 @@ element-requires : tie.Need-element-requires
 element-requires c κs = search needs
 
 subtract-requires : tie.Need-subtract-requires
-subtract-requires c κs = (held-within (c .before .cover-of .result) (c .before .cover-of .ok) (c .before .cover-of .ensures .1) (omega arith), held-within (c .element .result) (c .element .ok) (c .element .ensures .1) (omega arith))
+subtract-requires c κs =
+    let x = c .before .cover-of in
+    let y = c .element in
+    let a : Within (2 ^ 61) (held (x .result)) = held-within (x .result) (x .ok) (x .ensures .1) (omega arith) in
+    let b : Within (2 ^ 61) (held (y .result)) = held-within (y .result) (y .ok) (y .ensures .1) (omega arith) in
+    (omega arith, omega arith)
 
 shared-slice-read-if-chosen : tie.Need-shared-slice-read-if-chosen
 shared-slice-read-if-chosen c = search needs

@@ -1,4 +1,5 @@
 -- The sums of the call, and the gap.
+use Prim.Native.Nat.{_^_}
 use mathlib.Core.Path.{_∙_}
 use native.Mathlib.Omega.{arith}
 use lib.IntN.{pos, _*ℤ_}
@@ -9,7 +10,8 @@ use Rattle.graph.specs.Graph.{weightAt}
 use Rattle.graph.specs.Subgraph.{markAt}
 use Rattle.dual.specs.Prices.{Prices}
 use Rattle.sets.specs.Lent.{pricesOf}
-use Rattle.sums.proofs.Machine.{held-is, held-within}
+use Rattle.integers.specs.Integer.{Within}
+use Rattle.sums.proofs.Machine.{held, held-is, held-within}
 use Rattle.measure.proofs.Answers.{numbers-are}
 use Rattle.measure.proofs.Counted.{marks-for, sum-for}
 use Rattle.measure.proofs.Shown.{sets-fit}
@@ -36,7 +38,12 @@ slacks-of-requires : tie.Need-slacks-of-requires
 slacks-of-requires c κs = search needs
 
 subtract-requires : tie.Need-subtract-requires
-subtract-requires c κs = (held-within (c .before .total-of .result) (c .before .total-of .ok) (c .before .total-of .ensures .1) (omega arith), held-within (c .before .before .weight-of .result) (c .before .before .weight-of .ok) (c .before .before .weight-of .ensures .1) (omega arith))
+subtract-requires c κs =
+    let t = c .before .total-of in
+    let w = c .before .before .weight-of in
+    let a : Within (2 ^ 61) (held (t .result)) = held-within (t .result) (t .ok) (t .ensures .1) (omega arith) in
+    let b : Within (2 ^ 61) (held (w .result)) = held-within (w .result) (w .ok) (w .ensures .1) (omega arith) in
+    (omega arith, omega arith)
 
 returns : tie.Need-returns
 returns c =

@@ -1,9 +1,11 @@
 -- The three parts are added one after the other.
+use Prim.Native.Nat.{_^_}
 use lib.IntN.{pos, _*ℤ_}
 use lib.ListN.{getD}
 use native.Mathlib.Omega.{arith}
 use borrow.Author.Needs.{needs}
-use Rattle.sums.proofs.Machine.{held-within, held-both}
+use Rattle.integers.specs.Integer.{Within}
+use Rattle.sums.proofs.Machine.{held, held-within, held-both}
 use Rattle.cover.proofs.Steps.{plus}
 use Rattle.measure.proofs.Counted.{bounds-for, sum-is}
 use Rattle.measure.proofs.total_of.Statement.{statement}
@@ -25,9 +27,12 @@ add-requires-2 : tie.Need-add-requires-2
 add-requires-2 c κs =
     let v = c .before .before .before .vertex-total in
     let s = c .before .before .set-total in
+    let e = c .before .edge-total in
     let u = c .add in
     let w = plus (v .result) (s .result) (u .result) (v .ok) (s .ok) (v .ensures) (s .ensures) (u .ensures) in
-    (held-within (u .result) (u .ok) (w .1) (omega arith), held-within (c .before .edge-total .result) (c .before .edge-total .ok) (c .before .edge-total .ensures .1) (omega arith))
+    let a : Within (2 ^ 61) (held (s .result)) = held-within (s .result) (s .ok) (s .ensures .1) (omega arith) in
+    let b : Within (2 ^ 61) (held (e .result)) = held-within (e .result) (e .ok) (e .ensures .1) (omega arith) in
+    (held-within (u .result) (u .ok) (w .1) (omega arith), omega arith)
 
 returns : tie.Need-returns
 returns c =

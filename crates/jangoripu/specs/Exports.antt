@@ -1,0 +1,87 @@
+-- What the exported calls return and tell: a refusal's number, or 0; its place, or 0; and the result's numbers, or 0.
+use Prim.Native.Nat.{ℕ}
+use mathlib.Core.Path.{_≡_}
+use mathlib.Core.Bool.{Bool, true, false}
+use mathlib.Core.List.{List, [], _∷_}
+use lib.IntN.{ℤ, pos}
+use lib.ListN.{length, replicate}
+use Rattle.graph.specs.declared.Kind.{Kind}
+use Rattle.graph.specs.declared.Kind.the-variants.{Bipartite, General}
+use Rattle.graph.specs.Refusal.{Outcome, yields, refuses, numberOf, reported, output}
+use Rattle.graph.specs.Graph.{Graph}
+use Rattle.layout.specs.declared.Numbers.{Numbers}
+use Rattle.layout.specs.declared.Numbers.the-variants.{Bounds, Prices}
+use Rattle.layout.specs.Answers.{Head, headOf}
+use Rattle.dual.specs.declared.Measures.{Measures}
+use Rattle.dual.specs.Solve.{Lent, solve}
+use Rattle.solver.specs.Solver.{Left}
+
+-- The kind that is passed as a bool, and the sort of numbers.
+abbrev pub kindOf : Bool → Kind
+kindOf false = Bipartite
+kindOf true = General
+
+abbrev pub numbersOf : Bool → Numbers
+numbersOf false = Bounds
+numbersOf true = Prices
+
+-- The number and the place of a refusal; 0 and 0 where there is none.
+abbrev pub numberIn : {A : Type 0} → Outcome A → ℕ
+numberIn (yields a) = 0
+numberIn (refuses fault place) = numberOf fault
+
+abbrev pub placeIn : {A : Type 0} → Outcome A → ℕ
+placeIn (yields a) = 0
+placeIn (refuses fault place) = place
+
+-- A kind as a number: 0 for bipartite, 1 for general.
+abbrev pub kindNumber : Kind → ℕ
+kindNumber Bipartite = 0
+kindNumber General = 1
+
+-- What the graph reader tells: the place, and kind, rows, columns and the number of edges.
+abbrev pub headTold : Outcome Head → List ℕ
+headTold (yields h) = 0 ∷ kindNumber (h .kind) ∷ h .rows ∷ h .columns ∷ h .edges ∷ []
+headTold (refuses fault place) = place ∷ 0 ∷ 0 ∷ 0 ∷ 0 ∷ []
+
+-- What the subgraph writer tells: the place, and the text's length.
+abbrev pub lengthTold : Outcome ℕ → List ℕ
+lengthTold (yields n) = 0 ∷ n ∷ []
+lengthTold (refuses fault place) = place ∷ 0 ∷ []
+
+-- What the measuring call tells: weight, total, slacks of vertices, odd sets, edges and cover, and gap.
+abbrev pub measuresTold : Outcome Measures → List ℤ
+measuresTold (yields m) = m .weight ∷ m .total ∷ m .vertices ∷ m .sets ∷ m .edges ∷ m .cover ∷ m .gap ∷ []
+measuresTold (refuses fault place) = replicate 7 (pos 0)
+
+-- A call that yields W has read a graph: what it returns and tells, and what its three outputs, of a, b and c numbers, hold.
+pub record GraphRead (W : Outcome Graph) (a b c r : ℕ) (answer row column : List ℕ) (weight : List ℤ) : Type 0 where
+  pub number : r ≡ numberIn W
+  pub told : answer ≡ headTold (reported headOf W)
+  pub rows : row ≡ output a 0 (λ g. g .row) W
+  pub columns : column ≡ output b 0 (λ g. g .column) W
+  pub weights : weight ≡ output c (pos 0) (λ g. g .weight) W
+
+-- A call that yields W has filled an output of n numbers, where z is 0.
+pub record Filled (N : Type 0) (W : Outcome (List N)) (n : ℕ) (z : N) (r place : ℕ) (out : List N) : Type 0 where
+  pub number : r ≡ numberIn W
+  pub told : place ≡ placeIn W
+  pub holds : out ≡ output n z (λ xs. xs) W
+
+-- A call that yields W has written a text to an output of n bytes.
+pub record TextWritten (W : Outcome (List ℕ)) (n r : ℕ) (answer out : List ℕ) : Type 0 where
+  pub number : r ≡ numberIn W
+  pub told : answer ≡ lengthTold (reported length W)
+  pub holds : out ≡ output n 0 (λ t. t) W
+
+-- A call that yields W has measured.
+pub record Measured (W : Outcome Measures) (r place : ℕ) (numbers : List ℤ) : Type 0 where
+  pub number : r ≡ numberIn W
+  pub told : place ≡ placeIn W
+  pub holds : numbers ≡ measuresTold W
+
+-- The solver has run on a graph with its bounds: what it returns and tells, and what it leaves in its outputs and the workspace.
+pub record GraphSolved (g : Graph) (bound : List ℤ) (lent : Lent) (r place : ℕ) (x : List ℕ) (vertex edge workspace : List ℤ) : Type 0 where
+  pub number : r ≡ numberIn (solve g bound lent)
+  pub told : place ≡ placeIn (solve g bound lent)
+  pub leaves : Left g bound lent x vertex edge workspace

@@ -1,0 +1,300 @@
+// The six public calls, exported for C and Rust; include/jangoripu.h declares them.
+//
+// Each returns 0 for a result, or the number of a refusal, and tells the refusal's place. A kind is a bool: false for bipartite (two-sided),
+// true for general (one-sided); so is the sort of numbers: false for bounds (limits), true for prices. No other value can be passed.
+use dual::MeasureAnswer;
+use dual::SolveAnswer;
+use graph::Kind;
+use layout::GraphAnswer;
+use layout::Numbers;
+use layout::NumbersAnswer;
+use layout::SubgraphAnswer;
+use layout::TextAnswer;
+ghost use Prim.Native.Nat.{ℕ};
+ghost use mathlib.Core.Path.{_≡_};
+ghost use lib.IntN.{ℤ, pos};
+ghost use lib.ListN.{length};
+ghost use Rattle.layout.specs.GraphText.{readGraph};
+ghost use Rattle.layout.specs.NumberText.{readNumbers};
+ghost use Rattle.layout.specs.SubgraphText.{readSubgraph, writeSubgraph};
+ghost use Rattle.checks.specs.Checks.{graphOf};
+ghost use Rattle.dual.specs.Measure.{measure};
+ghost use Rattle.sets.specs.Lent.{pricesOf};
+ghost use Rattle.solver.specs.Solver.{lentOf};
+ghost use Rattle.jangoripu.specs.Exports.{kindOf, kindNumber, numbersOf, GraphRead, Filled, TextWritten, GraphSolved, Measured};
+
+// The kind that is passed as a bool.
+fn kind_of(general: bool) -> Kind
+    ensures { λ r. ⌜ r ≡ kindOf general ⌝ }
+{
+    if general {
+        Kind::General
+    } else {
+        Kind::Bipartite
+    }
+}
+
+// The sort of numbers that is passed as a bool.
+fn numbers_of(prices: bool) -> Numbers
+    ensures { λ r. ⌜ r ≡ numbersOf prices ⌝ }
+{
+    if prices {
+        Numbers::Prices
+    } else {
+        Numbers::Bounds
+    }
+}
+
+// A kind as a number.
+fn kind_number(kind: Kind) -> u64
+    ensures { λ r. ⌜ r ≡ kindNumber kind ⌝ }
+{
+    match kind {
+        Kind::Bipartite => 0,
+        Kind::General => 1,
+    }
+}
+
+// Reads a graph (sheet). The answer tells the place, and kind, rows, columns and the number of edges.
+#[no_mangle]
+pub extern "C" fn jangoripu_read_graph(
+    text: &[u8],
+    row: &mut [u32],
+    column: &mut [u32],
+    weight: &mut [i32],
+    answer: &mut [u64; 5],
+) -> u32
+    ensures { λ r. ⌜ GraphRead (readGraph (length (now (row .entry))) (length (now (column .entry))) (length (now (weight .entry))) (now (text .entry))) (length (now (row .entry))) (length (now (column .entry))) (length (now (weight .entry))) r (now (answer .exit)) (now (row .exit)) (now (column .exit)) (now (weight .exit)) ⌝ }
+{
+    match graph_reader::read_graph(text, row, column, weight) {
+        GraphAnswer::Graph {
+            kind,
+            rows,
+            columns,
+            edges,
+        } => {
+            let number = kind_number(kind);
+            *answer = [0, number, rows as u64, columns as u64, edges as u64];
+            0
+        }
+        GraphAnswer::Refused(refusal) => {
+            *answer = [refusal.place, 0, 0, 0, 0];
+            let fault = refusal.fault;
+            graph::number(fault)
+        }
+    }
+}
+
+// Reads `count` bounds (limits) or prices.
+#[no_mangle]
+pub extern "C" fn jangoripu_read_numbers(
+    text: &[u8],
+    prices: bool,
+    count: u32,
+    out: &mut [i32],
+    place: &mut u64,
+) -> u32
+    ensures { λ r. ⌜ Filled ℤ (readNumbers (numbersOf prices) count (length (now (out .entry))) (now (text .entry))) (length (now (out .entry))) (pos 0) r (now (place .exit)) (now (out .exit)) ⌝ }
+{
+    let what = numbers_of(prices);
+    match number_reader::read_numbers(text, what, count, out) {
+        NumbersAnswer::Read => {
+            *place = 0;
+            0
+        }
+        NumbersAnswer::Refused(refusal) => {
+            *place = refusal.place;
+            let fault = refusal.fault;
+            graph::number(fault)
+        }
+    }
+}
+
+// Reads a subgraph (plan) of a graph.
+#[no_mangle]
+pub extern "C" fn jangoripu_read_subgraph(
+    text: &[u8],
+    general: bool,
+    rows: u32,
+    columns: u32,
+    edges: u32,
+    row: &[u32],
+    column: &[u32],
+    weight: &[i32],
+    chosen: &mut [u8],
+    place: &mut u64,
+) -> u32
+    ensures { λ r. ⌜ Filled ℕ (readSubgraph (graphOf (kindOf general) rows columns edges (now (row .entry)) (now (column .entry)) (now (weight .entry))) (length (now (chosen .entry))) (now (text .entry))) (length (now (chosen .entry))) 0 r (now (place .exit)) (now (chosen .exit)) ⌝ }
+{
+    let kind = kind_of(general);
+    match subgraph_reader::read_subgraph(
+        text,
+        kind,
+        rows,
+        columns,
+        edges,
+        row,
+        column,
+        weight,
+        chosen,
+    ) {
+        SubgraphAnswer::Read => {
+            *place = 0;
+            0
+        }
+        SubgraphAnswer::Refused(refusal) => {
+            *place = refusal.place;
+            let fault = refusal.fault;
+            graph::number(fault)
+        }
+    }
+}
+
+// Writes a subgraph (plan) as a text. The answer tells the place, and the text's length.
+#[no_mangle]
+pub extern "C" fn jangoripu_write_subgraph(
+    general: bool,
+    rows: u32,
+    columns: u32,
+    edges: u32,
+    row: &[u32],
+    column: &[u32],
+    weight: &[i32],
+    chosen: &[u8],
+    out: &mut [u8],
+    answer: &mut [u64; 2],
+) -> u32
+    ensures { λ r. ⌜ TextWritten (writeSubgraph (graphOf (kindOf general) rows columns edges (now (row .entry)) (now (column .entry)) (now (weight .entry))) (now (chosen .entry)) (length (now (out .entry)))) (length (now (out .entry))) r (now (answer .exit)) (now (out .exit)) ⌝ }
+{
+    let kind = kind_of(general);
+    match subgraph_writer::write_subgraph(
+        kind,
+        rows,
+        columns,
+        edges,
+        row,
+        column,
+        weight,
+        chosen,
+        out,
+    ) {
+        TextAnswer::Written(length) => {
+            *answer = [0, length as u64];
+            0
+        }
+        TextAnswer::Refused(refusal) => {
+            *answer = [refusal.place, 0];
+            let fault = refusal.fault;
+            graph::number(fault)
+        }
+    }
+}
+
+// Solves a bipartite graph: an optimal subgraph (a plan of largest merit), and prices that prove it.
+#[no_mangle]
+pub extern "C" fn jangoripu_solve(
+    general: bool,
+    rows: u32,
+    columns: u32,
+    edges: u32,
+    row: &[u32],
+    column: &[u32],
+    weight: &[i32],
+    bound: &[i32],
+    chosen: &mut [u8],
+    vertex_price: &mut [i32],
+    edge_price: &mut [i32],
+    workspace: &mut [i32],
+    place: &mut u64,
+) -> u32
+    ensures { λ r. ⌜ GraphSolved (graphOf (kindOf general) rows columns edges (now (row .entry)) (now (column .entry)) (now (weight .entry))) (now (bound .entry)) (lentOf (length (now (chosen .entry))) (length (now («vertex_price» .entry))) (length (now («edge_price» .entry))) (length (now (workspace .entry)))) r (now (place .exit)) (now (chosen .exit)) (now («vertex_price» .exit)) (now («edge_price» .exit)) (now (workspace .exit)) ⌝ }
+{
+    let kind = kind_of(general);
+    match solver::solve(
+        kind,
+        rows,
+        columns,
+        edges,
+        row,
+        column,
+        weight,
+        bound,
+        chosen,
+        vertex_price,
+        edge_price,
+        workspace,
+    ) {
+        SolveAnswer::Solved => {
+            *place = 0;
+            0
+        }
+        SolveAnswer::Refused(refusal) => {
+            *place = refusal.place;
+            let fault = refusal.fault;
+            graph::number(fault)
+        }
+    }
+}
+
+// Measures a subgraph (plan) against prices.
+#[no_mangle]
+pub extern "C" fn jangoripu_measure(
+    general: bool,
+    rows: u32,
+    columns: u32,
+    edges: u32,
+    row: &[u32],
+    column: &[u32],
+    weight: &[i32],
+    bound: &[i32],
+    chosen: &[u8],
+    vertex_price: &[i32],
+    edge_price: &[i32],
+    sets: u32,
+    set_price: &[i32],
+    set_vertices: &[u64],
+    set_edges: &[u64],
+    numbers: &mut [i64; 7],
+    place: &mut u64,
+) -> u32
+    ensures { λ r. ⌜ Measured (measure (graphOf (kindOf general) rows columns edges (now (row .entry)) (now (column .entry)) (now (weight .entry))) (now (bound .entry)) (now (chosen .entry)) (pricesOf (now («vertex_price» .entry)) (now («edge_price» .entry)) sets (now («set_price» .entry)) (now («set_vertices» .entry)) (now («set_edges» .entry)))) r (now (place .exit)) (now (numbers .exit)) ⌝ }
+{
+    let kind = kind_of(general);
+    match measure::measure(
+        kind,
+        rows,
+        columns,
+        edges,
+        row,
+        column,
+        weight,
+        bound,
+        chosen,
+        vertex_price,
+        edge_price,
+        sets,
+        set_price,
+        set_vertices,
+        set_edges,
+    ) {
+        MeasureAnswer::Measured(m) => {
+            *numbers = [
+                m.weight,
+                m.total,
+                m.vertices,
+                m.sets,
+                m.edges,
+                m.cover,
+                m.gap,
+            ];
+            *place = 0;
+            0
+        }
+        MeasureAnswer::Refused(refusal) => {
+            *numbers = [0, 0, 0, 0, 0, 0, 0];
+            *place = refusal.place;
+            let fault = refusal.fault;
+            graph::number(fault)
+        }
+    }
+}

@@ -1,0 +1,3 @@
+-- What the tests yield, and what they show.
+pub mod Refusing
+pub mod Accepting

@@ -1,0 +1,172 @@
+//! Times the proved calls beside the separately written program, in one run. Buffers are cleared before each call.
+
+use compare::graphs::Lent;
+use compare::proved;
+use reference::{Kind, Random};
+use std::hint::black_box;
+use std::time::Instant;
+
+/// The median time of a call in microseconds, over the inputs.
+fn median<T>(inputs: &[T], mut call: impl FnMut(&T)) -> f64 {
+    let mut times: Vec<f64> = inputs
+        .iter()
+        .map(|input| {
+            let start = Instant::now();
+            call(input);
+            start.elapsed().as_secs_f64() * 1e6
+        })
+        .collect();
+    times.sort_by(f64::total_cmp);
+    times[times.len() / 2]
+}
+
+fn show(name: &str, ours: f64, theirs: f64) {
+    println!(
+        "{name:<44} proved {ours:9.1} us   separate {theirs:9.1} us   ratio {:5.2}",
+        ours / theirs
+    );
+}
+
+/// A bipartite graph with weights from their whole range, and bounds 1 to 4.
+fn sheet(random: &mut Random, side: u32, edges: usize) -> (Lent, Vec<i32>) {
+    let mut lent = Lent::right(random, Kind::Bipartite, side, side, edges);
+    for weight in &mut lent.weight {
+        *weight = random.between(-1_000_000, 1_000_000);
+    }
+    let bound = (0..lent.vertices()).map(|_| random.between(1, 4)).collect();
+    (lent, bound)
+}
+
+fn text(lent: &Lent) -> Vec<u8> {
+    let mut text = format!(
+        "%%MatrixMarket matrix coordinate integer general\n{} {} {}\n",
+        lent.rows, lent.columns, lent.edges
+    );
+    for e in 0..lent.row.len() {
+        text += &format!("{} {} {}\n", lent.row[e], lent.column[e], lent.weight[e]);
+    }
+    text.into_bytes()
+}
+
+fn readers() {
+    for edges in [128, 256, 512, 1024] {
+        let mut random = Random::new(1);
+        let texts: Vec<_> = (0..101)
+            .map(|_| text(&sheet(&mut random, 64, edges).0))
+            .collect();
+        let mut out = (vec![0u32; 1024], vec![0u32; 1024], vec![0i32; 1024]);
+        let ours = median(&texts, |t| {
+            black_box(proved::read_graph(t, &mut out.0, &mut out.1, &mut out.2)).unwrap();
+        });
+        let theirs = median(&texts, |t| {
+            black_box(reference::read_graph(t, &mut out.0, &mut out.1, &mut out.2)).unwrap();
+        });
+        show(&format!("read a graph, {edges} edges"), ours, theirs);
+    }
+}
+
+fn measures() {
+    for (edges, sets) in [(256, 16), (1024, 0), (1024, 4), (1024, 16)] {
+        let mut random = Random::new(2);
+        let inputs: Vec<_> = (0..101).map(|_| sheet(&mut random, 64, edges)).collect();
+        let vertex = vec![1_000_000; 128];
+        let edge = vec![0; 1024];
+        let price = vec![1; sets];
+        let mut set_vertices = vec![0u64; 2 * sets];
+        let set_edges = vec![0u64; 16 * sets];
+        for s in 0..sets {
+            set_vertices[2 * s] = 1;
+        }
+        let run = |call: &mut dyn FnMut(&Lent, &[i32], &[u8])| {
+            median(&inputs, |(lent, bound)| {
+                let mut bound = bound.clone();
+                bound[0] = 1;
+                call(lent, &bound, &vec![0u8; lent.row.len()]);
+            })
+        };
+        let sets = sets as u32;
+        let ours = run(&mut |lent, bound, chosen| {
+            let m = lent.row.len();
+            black_box(proved::measure(
+                &lent.lend(),
+                bound,
+                chosen,
+                &vertex,
+                &edge[..m],
+                sets,
+                &price,
+                &set_vertices,
+                &set_edges,
+            ))
+            .unwrap();
+        });
+        let theirs = run(&mut |lent, bound, chosen| {
+            let m = lent.row.len();
+            black_box(reference::measure(
+                &lent.lend(),
+                bound,
+                chosen,
+                &vertex,
+                &edge[..m],
+                sets,
+                &price,
+                &set_vertices,
+                &set_edges,
+            ))
+            .unwrap();
+        });
+        show(
+            &format!("measure, {edges} edges, {sets} sets"),
+            ours,
+            theirs,
+        );
+    }
+}
+
+fn solvers() {
+    for (side, edges) in [
+        (16, 128),
+        (32, 256),
+        (32, 1024),
+        (64, 256),
+        (64, 512),
+        (64, 1024),
+    ] {
+        let mut random = Random::new(3);
+        let inputs: Vec<_> = (0..100).map(|_| sheet(&mut random, side, edges)).collect();
+        let mut out = (
+            vec![0u8; 1024],
+            vec![0i32; 128],
+            vec![0i32; 1024],
+            vec![0i32; 4096],
+        );
+        let mut solve = |proved: bool| {
+            median(&inputs, |(lent, bound)| {
+                let (n, m) = (lent.vertices(), lent.row.len());
+                out.0.fill(0);
+                out.1.fill(0);
+                out.2.fill(0);
+                out.3.fill(0);
+                let (chosen, vertex, edge) = (&mut out.0[..m], &mut out.1[..n], &mut out.2[..m]);
+                let call = if proved {
+                    proved::solve
+                } else {
+                    reference::solve
+                };
+                black_box(call(&lent.lend(), bound, chosen, vertex, edge, &mut out.3)).unwrap();
+            })
+        };
+        let (ours, theirs) = (solve(true), solve(false));
+        show(
+            &format!("solve, {side} by {side}, {edges} edges, bounds 1 to 4"),
+            ours,
+            theirs,
+        );
+    }
+}
+
+fn main() {
+    readers();
+    measures();
+    solvers();
+}

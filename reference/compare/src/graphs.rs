@@ -1,0 +1,126 @@
+//! Graphs as they are lent to the calls on numbers, right and now and then wrong.
+
+use reference::{Graph, Kind, Random};
+
+/// The numbers of a graph, of which something may be wrong.
+#[derive(Clone, Debug)]
+pub struct Lent {
+    pub kind: Kind,
+    pub rows: u32,
+    pub columns: u32,
+    pub edges: u32,
+    pub row: Vec<u32>,
+    pub column: Vec<u32>,
+    pub weight: Vec<i32>,
+}
+
+/// A weight: extreme, small or from the whole range.
+pub fn weight(random: &mut Random) -> i32 {
+    match random.below(4) {
+        0 => random.pick(&[-1_000_000, 1_000_000, 0, -1, 1]),
+        1 => random.between(-5, 5),
+        _ => random.between(-1_000_000, 1_000_000),
+    }
+}
+
+impl Lent {
+    /// A right graph of a kind with these sizes and at most this many edges, in any order.
+    pub fn right(random: &mut Random, kind: Kind, rows: u32, columns: u32, most: usize) -> Lent {
+        let mut pairs: Vec<(u32, u32)> = Vec::new();
+        for r in 1..=rows {
+            for c in 1..=columns {
+                if kind == Kind::Bipartite || r > c {
+                    pairs.push((r, c));
+                }
+            }
+        }
+        for at in (1..pairs.len()).rev() {
+            pairs.swap(at, random.below(at as u64 + 1) as usize);
+        }
+        pairs.truncate(most);
+        Lent {
+            kind,
+            rows,
+            columns,
+            edges: pairs.len() as u32,
+            row: pairs.iter().map(|p| p.0).collect(),
+            column: pairs.iter().map(|p| p.1).collect(),
+            weight: pairs.iter().map(|_| weight(random)).collect(),
+        }
+    }
+
+    /// A right graph of either kind: small, or now and then full.
+    pub fn any(random: &mut Random) -> Lent {
+        let kind = random.pick(&[Kind::Bipartite, Kind::General]);
+        let full = random.below(100) == 0;
+        let side = match (kind, full) {
+            (Kind::Bipartite, true) => 64,
+            (Kind::General, true) => 128,
+            _ => 6,
+        };
+        let rows = 1 + random.below(side) as u32;
+        let columns = if kind == Kind::General {
+            rows
+        } else {
+            1 + random.below(side) as u32
+        };
+        let most = if full {
+            1024
+        } else {
+            random.below(13) as usize
+        };
+        Lent::right(random, kind, rows, columns, most)
+    }
+
+    /// One number is made wrong.
+    pub fn spoil(&mut self, random: &mut Random) {
+        let far = random.pick(&[0, 65, 129, 1025, u32::MAX, u32::MAX - 3, 1 << 31]);
+        let count = self.row.len();
+        let at = random.below(count.max(1) as u64) as usize;
+        match random.below(9) {
+            0 => self.rows = far,
+            1 => self.columns = far,
+            2 => self.edges = far,
+            3 => self.row.push(1),
+            4 => drop(self.weight.pop()),
+            5 if count > 0 => self.row[at] = random.pick(&[0, 7, far]),
+            6 if count > 0 => self.column[at] = random.pick(&[0, 7, far]),
+            7 if count > 0 => {
+                self.weight[at] = random.pick(&[1_000_001, -1_000_001, i32::MIN, i32::MAX])
+            }
+            8 if count > 1 => {
+                self.row[count - 1] = self.row[0];
+                self.column[count - 1] = self.column[0];
+            }
+            _ => self.kind = random.pick(&[Kind::Bipartite, Kind::General]),
+        }
+    }
+
+    /// The graph as it is lent.
+    pub fn lend(&self) -> Graph<'_> {
+        Graph {
+            kind: self.kind,
+            rows: self.rows,
+            columns: self.columns,
+            edges: self.edges,
+            row: &self.row,
+            column: &self.column,
+            weight: &self.weight,
+        }
+    }
+
+    /// The number of vertices, where the graph is right.
+    pub fn vertices(&self) -> usize {
+        self.lend().vertices() as usize
+    }
+}
+
+/// A lent length: mostly the right one.
+pub fn length(random: &mut Random, right: usize) -> usize {
+    match random.below(60) {
+        0 => right + 1,
+        1 => right.saturating_sub(1),
+        2 => 0,
+        _ => right,
+    }
+}

@@ -1,0 +1,142 @@
+//! The solver, on small graphs where every subgraph is tried, and on large ones.
+
+use crate::graphs::{length, Lent};
+use crate::guard::Guarded;
+use crate::proved;
+use crate::tally::Tally;
+use reference::{largest_weight, Kind, Random};
+
+/// Solves one graph by both programs and compares weights, prices and gaps. On a small one every subgraph is tried, and a length may be wrong.
+fn compare_one(random: &mut Random, lent: &Lent, bound: &[i32], tally: &mut Tally, small: bool) {
+    let g = lent.lend();
+    let n = (g.vertices() as usize).min(4096);
+    let m = (g.edges as usize).min(4096);
+    let mut lengths = [m, n, m, 4096];
+    if small {
+        lengths = lengths.map(|right| length(random, right));
+    }
+    let mut other = (
+        vec![9u8; lengths[0]],
+        vec![9; lengths[1]],
+        vec![9; lengths[2]],
+        vec![9; lengths[3]],
+    );
+    let expected = reference::solve(
+        &g,
+        bound,
+        &mut other.0,
+        &mut other.1,
+        &mut other.2,
+        &mut other.3,
+    );
+    let mut chosen = Guarded::new(lengths[0], 7, 77);
+    let mut vertex = Guarded::new(lengths[1], -7, 77);
+    let mut edge = Guarded::new(lengths[2], -7, 77);
+    let mut workspace = Guarded::new(lengths[3], -7, 77);
+    let solved = proved::solve(
+        &g,
+        bound,
+        chosen.lend_mut(),
+        vertex.lend_mut(),
+        edge.lend_mut(),
+        workspace.lend_mut(),
+    );
+    let mut agreed = solved == expected
+        && chosen.unharmed()
+        && vertex.unharmed()
+        && edge.unharmed()
+        && workspace.unharmed()
+        && workspace.lend().iter().all(|&x| x == 0);
+    match solved {
+        Ok(()) if agreed => {
+            let weight = |x: &[u8]| reference::brute::weight_of(&g, x);
+            let in_range = |prices: &[i32]| prices.iter().all(|p| (0..=1_000_000).contains(p));
+            let ours = reference::measure(
+                &g,
+                bound,
+                chosen.lend(),
+                vertex.lend(),
+                edge.lend(),
+                0,
+                &[],
+                &[],
+                &[],
+            );
+            let theirs = proved::measure(
+                &g,
+                bound,
+                chosen.lend(),
+                vertex.lend(),
+                edge.lend(),
+                0,
+                &[],
+                &[],
+                &[],
+            );
+            agreed = weight(chosen.lend()) == weight(&other.0)
+                && in_range(vertex.lend())
+                && in_range(edge.lend())
+                && ours == theirs
+                && ours.is_ok_and(|numbers| numbers.gap == 0)
+                && (!small || weight(chosen.lend()) == largest_weight(&g, bound));
+        }
+        Ok(()) => {}
+        Err(_) => {
+            agreed = agreed
+                && chosen.lend().iter().all(|&x| x == 0)
+                && vertex.lend().iter().all(|&x| x == 0)
+                && edge.lend().iter().all(|&x| x == 0);
+        }
+    }
+    tally.count(&expected, agreed, || {
+        format!("{expected:?} {solved:?} {lent:?} {bound:?}")
+    });
+}
+
+/// A small graph to be solved, and now and then something that is refused.
+fn small(random: &mut Random, tally: &mut Tally) {
+    let (rows, columns) = (1 + random.below(4) as u32, 1 + random.below(4) as u32);
+    let most = random.below(11) as usize;
+    let mut lent = Lent::right(random, Kind::Bipartite, rows, columns, most);
+    if random.below(4) == 0 {
+        let same = crate::graphs::weight(random);
+        lent.weight.fill(same);
+    }
+    let mut bound: Vec<i32> = (0..lent.vertices())
+        .map(|_| random.pick(&[0, 1, 1, 2, 64]))
+        .collect();
+    match random.below(20) {
+        0 => lent.spoil(random),
+        1 => bound[0] = random.pick(&[-1, 65]),
+        2 => lent = Lent::right(random, Kind::General, rows, rows, most),
+        _ => {}
+    }
+    if lent.kind == Kind::General && random.below(2) == 0 {
+        bound.truncate(lent.rows.min(8) as usize);
+    }
+    compare_one(random, &lent, &bound, tally, true);
+}
+
+fn large(random: &mut Random, tally: &mut Tally) {
+    let (rows, columns) = (32 + random.below(33) as u32, 32 + random.below(33) as u32);
+    let lent = Lent::right(random, Kind::Bipartite, rows, columns, 1024);
+    let bound: Vec<i32> = (0..lent.vertices()).map(|_| random.between(0, 4)).collect();
+    compare_one(random, &lent, &bound, tally, false);
+}
+
+/// Compares the solver on `count` small graphs and 200 large ones.
+pub fn compare(seed: u64, count: u64) -> Vec<bool> {
+    let mut random = Random::new(seed);
+    let mut smalls = Tally::new("solver, small graphs");
+    for _ in 0..count {
+        small(&mut random, &mut smalls);
+    }
+    let mut larges = Tally::new("solver, large graphs");
+    for _ in 0..200 {
+        large(&mut random, &mut larges);
+    }
+    vec![
+        smalls.report(count, &[4, 6, 7, 8, 9, 10, 16]),
+        larges.report(200, &[]),
+    ]
+}
