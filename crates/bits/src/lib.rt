@@ -16,14 +16,14 @@ pub fn bit_at(words: &[u64], w: usize, k: u32) -> bool
 }
 
 // The low k bits of a word.
-pub fn low(word: u64, k: u64) -> u64
+fn low(word: u64, k: u64) -> u64
     ensures { λ r. ⌜ r ≡ word % 2 ^ k ⌝ }
 {
     if k < 64 { word & ((1 << k) - 1) } else { word }
 }
 
 // Whether a bit of the word is set from bit k on.
-pub fn above(word: u64, k: u64) -> bool
+fn above(word: u64, k: u64) -> bool
     ensures { λ r. ⌜ r ≡ some? (64 - k) (λ j. bitOf word (k + j)) ⌝ }
 {
     if k < 64 { word >> k != 0 } else { false }

@@ -1,7 +1,7 @@
 -- The twelve marked cases: the table's test is computed, and one law turns it into the statement of each claim.
 use Prim.Native.Nat.{ℕ}
-use mathlib.Core.Path.{_≡_, refl, sym, ap, _∙_}
-use mathlib.Core.Bool.{Bool, true, false, cond, _&&_}
+use mathlib.Core.Path.{_≡_, refl, ap}
+use mathlib.Core.Bool.{Bool, true, _&&_}
 use mathlib.Core.List.{List, [], _∷_}
 use mathlib.Core.Option.{Option, none, some}
 use lib.Dec.{eqb, eqb→eq}
@@ -10,7 +10,7 @@ use lib.Signed.{leZ}
 use Rattle.integers.proofs.Order.{leZ-true, ≤ℤ-antisym}
 use Rattle.graph.specs.declared.Fault.{Fault}
 use Rattle.graph.specs.Refusal.{Outcome, yields, refuses, numberOf}
-use Rattle.graph.specs.Subgraph.{Optimal, weightOf}
+use Rattle.graph.specs.Subgraph.{weightOf}
 use Rattle.graph.proofs.Passing.{zero-one}
 use Rattle.dual.specs.declared.Measures.{Measures}
 use Rattle.dual.specs.Sets.{capacity}

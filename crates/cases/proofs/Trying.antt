@@ -1,9 +1,9 @@
 -- Trying every subgraph finds the largest weight of a feasible one.
-use Prim.Native.Nat.{ℕ, zero, suc, _+_, _≤_, _<_}
+use Prim.Native.Nat.{ℕ, zero, suc, _≤_, _<_}
 use mathlib.Core.Path.{_≡_, refl, sym, ap, _∙_, subst}
-use mathlib.Core.Logic.{_⊎_, inl, inr, ⊎-elim}
+use mathlib.Core.Logic.{_⊎_, inl, inr}
 use mathlib.Core.Bool.{Bool, true, false, not, cond, _&&_, Bool·not-not}
-use mathlib.Core.List.{List, [], _∷_, _++_, map, List·Memᴰ, List·Memᴰ·head, List·Memᴰ·tail, List·Memᴰ·cases-cons, List·Memᴰ·not-nil, Memᴰ·append-left, Memᴰ·append-right}
+use mathlib.Core.List.{List, [], _∷_, map, List·Memᴰ, List·Memᴰ·head, List·Memᴰ·tail, List·Memᴰ·cases-cons, List·Memᴰ·not-nil, Memᴰ·append-left, Memᴰ·append-right}
 use mathlib.Core.Option.{Option, none, some}
 use native.Mathlib.Omega.{arith}
 use lib.Dec.{T, leb, eqb, leb→le, eqb→eq}
@@ -12,7 +12,7 @@ use lib.IntN.{ℤ, pos}
 use lib.ListN.{length}
 use lib.Signed.{leZ, _≤ℤ_, ≤ℤ-refl}
 use Rattle.integers.proofs.Order.{≤ℤ-trans, leZ-true, leZ-false, le-leZ, order}
-use Rattle.graph.specs.Graph.{Graph, vertices, boundAt, some?}
+use Rattle.graph.specs.Graph.{Graph, vertices, boundAt}
 use Rattle.graph.specs.Subgraph.{markAt, degree, weightOf, Feasible, Optimal}
 use Rattle.graph.proofs.Passing.{zero-one, some-none, none-some}
 use Rattle.dual.specs.Sets.{every}

@@ -1,7 +1,7 @@
 -- A graph that passes the tests on its numbers is sound: what code may use of it.
 use Prim.Native.Nat.{ℕ, _≤_, _<_}
-use mathlib.Core.Path.{_≡_, sym, ap, ap₂, _∙_}
-use mathlib.Core.Bool.{Bool, true, not, _&&_, true≢false}
+use mathlib.Core.Path.{_≡_, sym, ap, _∙_}
+use mathlib.Core.Bool.{Bool, true, not, true≢false}
 use mathlib.Core.List.{List}
 use mathlib.Core.Option.{none, some}
 use native.Mathlib.Omega.{arith}
@@ -13,15 +13,16 @@ use borrow.Author.Tests.{leb-true, eq-eqb, not-true}
 use Rattle.integers.specs.Integer.{Within}
 use Rattle.integers.proofs.Order.{order, between-true}
 use Rattle.graph.specs.Refusal.{Outcome, yields, lowest, passing}
-use Rattle.graph.specs.Graph.{Graph, rowAt, columnAt, weightAt, weightInRange, boundInRange, boundAt, joins, joined}
+use Rattle.graph.specs.Graph.{Graph, rowAt, columnAt, weightAt, weightInRange, joins, joined}
 use Rattle.graph.specs.Subgraph.{markAt}
 use Rattle.graph.specs.Tests.{graphTests}
+use Rattle.graph.proofs.Ranges.{SizesHold, EndsHold, sizes-hold, ends-hold, _also_}
 use Rattle.graph.proofs.Passing.{lowest-none, lowest-some, some-none}
 use Rattle.checks.specs.declared.Check.{Check}
 use Rattle.checks.specs.declared.Check.the-variants as Check
 use Rattle.checks.specs.Checks.{checkSays, Flagged}
 use Rattle.checks.proofs.Refusals.{sized, endsKept, weightKept, newEnds, all-kept}
-use Rattle.checks.proofs.Ranges.{SizesHold, EndsHold, sizes-hold, ends-hold, ends-flagged}
+use Rattle.checks.proofs.Ranges.{ends-flagged}
 
 -- Sizes and ends in range, weights within 1,000,000, and no two edges with the same ends.
 pub record Sound (g : Graph) : Type 0 where
@@ -38,7 +39,7 @@ among g f e s t =
 pub flagged : (g : Graph) → sized g ≡ true → lowest (g .edges) (endsKept g) ≡ none → (e : ℕ) → e < g .edges → Flagged (rowAt g e) × Flagged (columnAt g e)
 flagged g s t e l = ends-flagged (g .kind) (g .rows) (g .columns) (g .edges) (rowAt g e) (columnAt g e) s (lowest-none (g .edges) (endsKept g) t e l)
 
--- What the tests of a weight, of marks and of bounds show.
+-- What the tests of a weight and of marks show.
 pub weight-hold : (z : ℤ) → weightInRange z ≡ true → Within 1000000 z
 weight-hold z e =
     let w = between-true (negsuc 999999) (pos 1000000) z e in
@@ -50,10 +51,6 @@ weight-hold z e =
 
 pub marks-hold : (x : List ℕ) (n : ℕ) → lowest n (λ e. leb (markAt x e) 1) ≡ none → (e : ℕ) → e < n → markAt x e ≤ 1
 marks-hold x n t e l = leb-true (markAt x e) 1 (lowest-none n (λ k. leb (markAt x k) 1) t e l)
-
-pub bounds-hold : (bound : List ℤ) (n : ℕ) → lowest n (λ v. boundInRange (boundAt bound v)) ≡ none → (v : ℕ) → v < n → (pos 0 ≤ℤ boundAt bound v) × (boundAt bound v ≤ℤ pos 64)
-bounds-hold bound n t v l =
-    between-true (pos 0) (pos 64) (boundAt bound v) (lowest-none n (λ k. boundInRange (boundAt bound k)) t v l)
 
 -- No edge with the ends of an earlier one: two edges with the same ends are one.
 pub singles : (g : Graph) (n : ℕ) → ((e : ℕ) → e < n → not (joined g e (rowAt g e) (columnAt g e)) ≡ true) → (d e : ℕ) → d < n → e < n → rowAt g d ≡ rowAt g e → columnAt g d ≡ columnAt g e → d ≡ e
@@ -68,7 +65,7 @@ singles g n new d e l m i j = elim (ℕ-discrete d e) [
     earlier : (d e : ℕ) → d < e → e < n → rowAt g d ≡ rowAt g e → columnAt g d ≡ columnAt g e → ⊥
     earlier d e b m i j =
         true≢false
-        (sym (ap₂ _&&_ (eq-eqb (rowAt g d) (rowAt g e) i) (eq-eqb (columnAt g d) (columnAt g e) j))
+        (sym (eq-eqb (rowAt g d) (rowAt g e) i also eq-eqb (columnAt g d) (columnAt g e) j)
         ∙ some-none e (joins g (rowAt g e) (columnAt g e)) (not-true (joined g e (rowAt g e) (columnAt g e)) (new e m)) d b)
 
 -- Whatever is yielded after the tests, the graph is sound.

@@ -46,14 +46,10 @@ unweighted kind rows columns row column = graphOf kind rows columns (length row)
 abbrev pub endsOf : List ℕ → List ℕ → Graph
 endsOf row column = unweighted General 0 0 row column
 
--- From 1 to n.
-pub record UpTo (n x : ℕ) : Type 0 where
-  pub least : 1 ≤ x
-  pub greatest : x ≤ n
-
 -- A row or column that the table of ends has a flag for.
-abbrev pub Flagged : ℕ → Type 0
-Flagged r = UpTo 128 r
+pub record Flagged (r : ℕ) : Type 0 where
+  pub least : 1 ≤ r
+  pub greatest : r ≤ 128
 
 -- Where the flag of row r and column c stands.
 abbrev pub flagAt : ℕ → ℕ → ℕ

@@ -83,7 +83,7 @@ pub fn price_in_range(x: i32) -> bool
 }
 
 // The lowest edge whose ends are out of range.
-pub fn lowest_ends(kind: Kind, rows: u32, columns: u32, row: &[u32], column: &[u32]) -> Lowest
+fn lowest_ends(kind: Kind, rows: u32, columns: u32, row: &[u32], column: &[u32]) -> Lowest
     requires { ⌜ length (now row) ≡ length (now column) ⌝ }
     ensures { λ r. ⌜ lowestSays r ≡ lowest (length (now (row .entry))) (λ e. endsInRange kind rows columns (getD (now (row .entry)) e 0) (getD (now (column .entry)) e 0)) ⌝ }
 {
@@ -99,7 +99,7 @@ pub fn lowest_ends(kind: Kind, rows: u32, columns: u32, row: &[u32], column: &[u
 }
 
 // The lowest edge whose weight is out of range.
-pub fn lowest_weight(weight: &[i32]) -> Lowest
+fn lowest_weight(weight: &[i32]) -> Lowest
     ensures { λ r. ⌜ lowestSays r ≡ lowest (length (now (weight .entry))) (λ e. weightInRange (getD (now (weight .entry)) e (pos 0))) ⌝ }
 {
     let mut e = 0;
@@ -157,7 +157,7 @@ pub fn note(flags: &mut [u8], r: u32, c: u32) -> bool
 }
 
 // The lowest edge with the ends of an earlier one.
-pub fn lowest_repeat(row: &[u32], column: &[u32]) -> Lowest
+fn lowest_repeat(row: &[u32], column: &[u32]) -> Lowest
     requires { ⌜ length (now row) ≡ length (now column) ⌝ }
     requires { ⌜ ((e : ℕ) → e < length (now row) → Flagged (getD (now row) e 0) × Flagged (getD (now column) e 0)) ⌝ }
     ensures { λ r. ⌜ lowestSays r ≡ lowest (length (now (row .entry))) (λ e. not (joined (endsOf (now (row .entry)) (now (column .entry))) e (getD (now (row .entry)) e 0) (getD (now (column .entry)) e 0))) ⌝ }

@@ -50,7 +50,7 @@ pub fn lowest_price(vertex_price: &[i32], edge_price: &[i32], set_price: &[i32])
 }
 
 // The prices that cover edge e, added up: of both its ends, its own, and of all odd sets that cover it.
-pub fn cover_of(
+fn cover_of(
     kind: Kind,
     rows: u32,
     row: &[u32],

@@ -1,13 +1,11 @@
 -- What the measuring call yields: a refusal, or the seven numbers.
-use Prim.Native.Nat.{ℕ, suc, _+_, _*_, min}
+use Prim.Native.Nat.{ℕ, _+_, _*_, min}
 use mathlib.Core.Bool.{Bool, _&&_}
 use mathlib.Core.List.{List, [], _∷_, _++_}
 use lib.Dec.{ltb, eqb}
 use lib.IntN.{ℤ, pos}
 use lib.ListN.{length, getD}
-use Rattle.graph.specs.declared.Fault.{Fault}
 use Rattle.graph.specs.declared.Fault.the-variants.{LentLength, Price, OddSet, Uncovered}
-use Rattle.graph.specs.declared.Refusal.{Refusal}
 use Rattle.graph.specs.Refusal.{Outcome, yields, refuses, Test, once, each, passing}
 use Rattle.graph.specs.Graph.{Graph, vertices, priceInRange}
 use Rattle.graph.specs.Subgraph.{weightOf}

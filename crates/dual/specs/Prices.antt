@@ -4,7 +4,7 @@ use mathlib.Core.Bool.{Bool, cond}
 use mathlib.Core.List.{List, _++_}
 use lib.Dec.{eqb}
 use lib.IntN.{ℤ, pos}
-use lib.ListN.{length, getD}
+use lib.ListN.{getD}
 
 -- A price sheet: prices of vertices and edges; the number of odd sets, and for each its price, 2 words that mark vertices and 16 that mark edges.
 pub record Prices : Type 0 where

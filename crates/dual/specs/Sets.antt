@@ -3,7 +3,7 @@ use Prim.Native.Nat.{ℕ, _+_, _*_, _-_, _/_, _%_}
 use mathlib.Core.Bool.{Bool, not, _&&_, _||_}
 use mathlib.Core.List.{List}
 use lib.Dec.{eqb}
-use lib.IntN.{ℤ, pos}
+use lib.IntN.{ℤ}
 use Rattle.integers.specs.Integer.{up}
 use Rattle.integers.specs.Sum.{sum}
 use Rattle.graph.specs.Graph.{Graph, vertices, firstEnd, secondEnd, boundAt, some?}

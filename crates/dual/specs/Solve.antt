@@ -7,10 +7,8 @@ use lib.Dec.{eqb}
 use lib.IntN.{ℤ, pos}
 use lib.ListN.{length}
 use lib.Signed.{_≤ℤ_}
-use Rattle.graph.specs.declared.Fault.{Fault}
 use Rattle.graph.specs.declared.Fault.the-variants.{LentLength}
-use Rattle.graph.specs.declared.Refusal.{Refusal}
-use Rattle.graph.specs.Refusal.{Outcome, yields, refuses, Test, once, passing}
+use Rattle.graph.specs.Refusal.{Outcome, yields, refuses, once, passing}
 use Rattle.graph.specs.Graph.{Graph, vertices, weightAt}
 use Rattle.graph.specs.Subgraph.{Optimal}
 use Rattle.graph.specs.Tests.{graphLengths, graphTests, boundTest, kindTest}

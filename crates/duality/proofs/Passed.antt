@@ -1,8 +1,8 @@
 -- What a call's tests have shown once they have passed, test by test.
 use Prim.Native.Nat.{ℕ, _+_, _*_, _-_, _≤_, _<_}
-use mathlib.Core.Path.{_≡_, refl, sym, ap, ap₂, _∙_, subst}
+use mathlib.Core.Path.{_≡_, refl, sym, ap, _∙_, subst}
 use mathlib.Core.Logic.{_≢_}
-use mathlib.Core.Bool.{Bool, true, false, not, _&&_, _||_, true≢false}
+use mathlib.Core.Bool.{Bool, true, not, _||_, true≢false}
 use mathlib.Core.List.{List, [], _∷_, _++_}
 use native.Mathlib.Omega.{arith}
 use native.Mathlib.Decide.{decLt}
@@ -11,16 +11,17 @@ use lib.IntN.{ℤ, pos, negsuc}
 use lib.ListN.{length, getD, length-append, List·getD-append}
 use lib.Seq.{getD-append-add}
 use lib.Signed.{_≤ℤ_}
-use borrow.Author.Tests.{eqb-true, leb-true, ltb-true, not-true, not-false, le-leb, lt-ltb, eq-eqb}
+use borrow.Author.Tests.{eqb-true, leb-true, not-true, not-false, le-leb, lt-ltb, eq-eqb}
 use Rattle.integers.proofs.Order.{leZ-true, le-leZ, between-true, le-between}
 use Rattle.graph.specs.declared.Kind.{Kind}
 use Rattle.graph.specs.declared.Kind.the-variants.{Bipartite, General}
 use Rattle.graph.specs.declared.Fault.the-variants.{LentLength}
-use Rattle.graph.specs.Refusal.{Outcome, yields, Test, once, passing}
-use Rattle.graph.specs.Graph.{Graph, some?, vertices, verticesOf, columnVertex, rowAt, columnAt, weightAt, firstEnd, secondEnd, boundAt, upTo, sizesInRange, endsInRange, priceInRange, joins, joined}
+use Rattle.graph.specs.Refusal.{yields, once}
+use Rattle.graph.specs.Graph.{Graph, some?, vertices, columnVertex, rowAt, columnAt, weightAt, firstEnd, secondEnd, boundAt, upTo, sizesInRange, priceInRange}
 use Rattle.graph.specs.Subgraph.{Feasible, markAt, degree}
 use Rattle.graph.specs.Tests.{graphLengths, graphTests, boundTest, kindTest, isBipartite, markTest, degreeTest}
-use Rattle.graph.proofs.Passing.{lowest-none, none-lowest, some-none, passing-yields, passing-none}
+use Rattle.graph.proofs.Passing.{some-none, Passes, passes, pass, passes-split, passes-join}
+use Rattle.graph.proofs.Ranges.{both, _also_, held, UpTo, up-to-true, EndsHold, sizes-hold, ends-hold}
 use Rattle.dual.specs.declared.Measures.{Measures}
 use Rattle.dual.specs.Prices.{Prices, vertexPrice, edgePrice, setPrice, allPrices, marked}
 use Rattle.dual.specs.Sets.{every, nothingAbove, hasVertex, endsInside, oneEndInside, isOdd, keepsRules}
@@ -29,41 +30,10 @@ use Rattle.dual.specs.Measure.{measure, measures, measureLengths, measureTests,
 use Rattle.dual.specs.Solve.{Lent, solve, solveLengths}
 use Rattle.duality.specs.Conditions.{Ends, DualFeasible}
 
--- ---- what tests are made of
-
-and-left : (s t : Bool) → s && t ≡ true → s ≡ true
-and-left true t e = refl
-and-left false t e = e
-
-and-right : (s t : Bool) → s && t ≡ true → t ≡ true
-and-right true t e = e
-and-right false true e = refl
-and-right false false e = e
-
--- A row of tests, written s && t && ..
-abbrev pub chain : Bool → List Bool → Bool
-chain s [] = s
-chain s (t ∷ ts) = chain (s && t) ts
-
-abbrev pub Held : List Bool → Type 0
-Held [] = Unit {0}
-Held (t ∷ ts) = (t ≡ true) × Held ts
-
-pub held : (s : Bool) (ts : List Bool) → chain s ts ≡ true → (s ≡ true) × Held ts
-held s [] e = (e, tt)
-held s (t ∷ ts) e = let h = held (s && t) ts e in (and-left s t (h .0), (and-right s t (h .0), h .1))
-
-infixl 5 _also_
-_also_ : {s t : Bool} → s ≡ true → t ≡ true → s && t ≡ true
-p also q = ap₂ _&&_ p q
+-- ---- odd sets
 
 pub every-true : (n : ℕ) (f : ℕ → Bool) → every n f ≡ true → (k : ℕ) → k < n → f k ≡ true
 every-true n f e k l = not-false (f k) (some-none n (λ j. not (f j)) (not-true (some? n (λ j. not (f j))) e) k l)
-
-up-to-true : (n x : ℕ) → upTo n x ≡ true → (1 ≤ x) × (x ≤ n)
-up-to-true n x e = (leb-true 1 x (and-left (leb 1 x) (leb x n) e), leb-true x n (and-right (leb 1 x) (leb x n) e))
-
--- ---- odd sets
 
 -- A marked edge has just one end inside.
 pub one-end : (g : Graph) (bound : List ℤ) (P : Prices) (s : ℕ) → keepsRules g bound P s ≡ true → (e : ℕ) → e < g .edges → marked P s e ≡ true → endsInside g P s e ≡ 1
@@ -72,32 +42,6 @@ one-end g bound P s k e l m =
     (ap (λ b. not b || eqb (endsInside g P s e) 1) (sym m)
     ∙ every-true (g .edges) (λ d. not (marked P s d) || eqb (endsInside g P s d) 1)
     (held (nothingAbove g P s) (hasVertex g P s ∷ oneEndInside g P s ∷ isOdd g bound P s ∷ []) k .1 .1 .0) e l)
-
--- ---- tests in their order
-
--- Every item keeps its test.
-abbrev pub Passes : List Test → Type 0
-Passes [] = Unit {0}
-Passes (t ∷ ts) = ((k : ℕ) → k < t .items → t .keeps k ≡ true) × Passes ts
-
-pub passes : {A : Type 0} (ts : List Test) (o : Outcome A) (a : A) → passing ts o ≡ yields a → Passes ts × (o ≡ yields a)
-passes [] o a e = (tt, e)
-passes (t ∷ ts) o a e =
-    let h = passing-yields t ts o a e in
-    let r = passes ts o a (h .1) in
-    ((lowest-none (t .items) (t .keeps) (h .0), r .0), r .1)
-
-pub pass : {A : Type 0} (ts : List Test) → Passes ts → (o : Outcome A) → passing ts o ≡ o
-pass [] p o = refl
-pass (t ∷ ts) p o = passing-none t ts o (none-lowest (t .items) (t .keeps) (p .0)) ∙ pass ts (p .1) o
-
-pub passes-split : (ts us : List Test) → Passes (ts ++ us) → Passes ts × Passes us
-passes-split [] us p = (tt, p)
-passes-split (t ∷ ts) us p = let r = passes-split ts us (p .1) in ((p .0, r .0), r .1)
-
-pub passes-join : (ts us : List Test) → Passes ts → Passes us → Passes (ts ++ us)
-passes-join [] us p q = q
-passes-join (t ∷ ts) us p q = (p .0, passes-join ts us (p .1) q)
 
 -- ---- the graph
 
@@ -112,80 +56,35 @@ pub record Sound (g : Graph) : Type 0 where
   pub someColumn : 1 ≤ g .columns
   pub fewVertices : vertices g ≤ 128
   pub fewEdges : g .edges ≤ 1024
-  pub rowRange : (e : ℕ) → e < g .edges → (1 ≤ rowAt g e) × (rowAt g e ≤ g .rows)
-  pub columnRange : (e : ℕ) → e < g .edges → (1 ≤ columnAt g e) × (columnAt g e ≤ g .columns)
+  pub rowRange : (e : ℕ) → e < g .edges → UpTo (g .rows) (rowAt g e)
+  pub columnRange : (e : ℕ) → e < g .edges → UpTo (g .columns) (columnAt g e)
   pub ends : Ends g
   pub apart : (e : ℕ) → e < g .edges → firstEnd g e ≢ secondEnd g e
   pub weightRange : (e : ℕ) → e < g .edges → (negsuc 999999 ≤ℤ weightAt g e) × (weightAt g e ≤ℤ pos 1000000)
-  pub simple : (e : ℕ) → e < g .edges → (d : ℕ) → d < e → rowAt g d ≡ rowAt g e → columnAt g d ≡ columnAt g e → ⊥
-
-record SizesKept (k : Kind) (rows columns edges : ℕ) : Type 0 where
-  someRow : 1 ≤ rows
-  someColumn : 1 ≤ columns
-  fewVertices : verticesOf k rows columns ≤ 128
-  fewEdges : edges ≤ 1024
-
-sizes-true : (k : Kind) (rows columns edges : ℕ) → sizesInRange k rows columns edges ≡ true → SizesKept k rows columns edges
-sizes-true Bipartite rows columns edges e =
-    let h = held (upTo 64 rows) (upTo 64 columns ∷ leb edges 1024 ∷ []) e in
-    let r = up-to-true 64 rows (h .0) in
-    let c = up-to-true 64 columns (h .1 .0) in
-    record { someRow = r .0; someColumn = c .0; fewVertices = omega arith; fewEdges = leb-true edges 1024 (h .1 .1 .0) }
-sizes-true General rows columns edges e =
-    let h = held (upTo 128 rows) (eqb columns rows ∷ leb edges 1024 ∷ []) e in
-    let r = up-to-true 128 rows (h .0) in
-    record { someRow = r .0; someColumn = omega (arith, eqb-true columns rows (h .1 .0)); fewVertices = r .1; fewEdges = leb-true edges 1024 (h .1 .1 .0) }
-
-record EndsKept (k : Kind) (rows columns r c : ℕ) : Type 0 where
-  row : (1 ≤ r) × (r ≤ rows)
-  column : (1 ≤ c) × (c ≤ columns)
-  first : r - 1 < verticesOf k rows columns
-  second : columnVertex k rows c < verticesOf k rows columns
-  apart : r - 1 ≢ columnVertex k rows c
-
-ends-true : (k : Kind) (rows columns r c : ℕ) → endsInRange k rows columns r c ≡ true → EndsKept k rows columns r c
-ends-true Bipartite rows columns r c e =
-    let h = held (upTo rows r) (upTo columns c ∷ []) e in
-    let i = up-to-true rows r (h .0) in
-    let j = up-to-true columns c (h .1 .0) in
-    record { row = i; column = j; first = omega arith; second = omega arith; apart = λ q. omega arith }
-ends-true General rows columns r c e =
-    let h = held (upTo rows r) (upTo columns c ∷ ltb c r ∷ []) e in
-    let i = up-to-true rows r (h .0) in
-    let j = up-to-true columns c (h .1 .0) in
-    let l = ltb-true c r (h .1 .1 .0) in
-    record { row = i; column = j; first = omega arith; second = omega arith; apart = λ q. omega arith }
-
-not-joined : (g : Graph) (e : ℕ) → not (joined g e (rowAt g e) (columnAt g e)) ≡ true → (d : ℕ) → d < e → rowAt g d ≡ rowAt g e → columnAt g d ≡ columnAt g e → ⊥
-not-joined g e h d l p q =
-    true≢false
-    (sym (eq-eqb (rowAt g d) (rowAt g e) p also eq-eqb (columnAt g d) (columnAt g e) q)
-    ∙ some-none e (joins g (rowAt g e) (columnAt g e)) (not-true (joined g e (rowAt g e) (columnAt g e)) h) d l)
 
 pub graph-passed : (g : Graph) → graphLengths g ≡ true → Passes (graphTests g) → Sound g
 graph-passed g lengths p =
     let h = held (eqb (length (g .row)) (g .edges)) (eqb (length (g .column)) (g .edges) ∷ eqb (length (g .weight)) (g .edges) ∷ []) lengths in
-    let sizes = sizes-true (g .kind) (g .rows) (g .columns) (g .edges) (p .0 0 (omega arith)) in
+    let sizes = sizes-hold (g .kind) (g .rows) (g .columns) (g .edges) (p .0 0 (omega arith)) in
     record {
       lengths = lengths;
       passed = p;
       rowLong = eqb-true (length (g .row)) (g .edges) (h .0);
       columnLong = eqb-true (length (g .column)) (g .edges) (h .1 .0);
       weightLong = eqb-true (length (g .weight)) (g .edges) (h .1 .1 .0);
-      someRow = sizes .someRow;
-      someColumn = sizes .someColumn;
-      fewVertices = sizes .fewVertices;
-      fewEdges = sizes .fewEdges;
+      someRow = sizes .rows .least;
+      someColumn = sizes .columns .least;
+      fewVertices = sizes .order;
+      fewEdges = sizes .few;
       rowRange = λ e l. at e l .row;
       columnRange = λ e l. at e l .column;
       ends = record { first = λ e l. at e l .first; second = λ e l. at e l .second };
       apart = λ e l. at e l .apart;
       weightRange = λ e l. between-true (negsuc 999999) (pos 1000000) (weightAt g e) (p .1 .1 .0 e l);
-      simple = λ e l. not-joined g e (p .1 .1 .1 .0 e l);
     }
   where
-    at : (e : ℕ) → e < g .edges → EndsKept (g .kind) (g .rows) (g .columns) (rowAt g e) (columnAt g e)
-    at e l = ends-true (g .kind) (g .rows) (g .columns) (rowAt g e) (columnAt g e) (p .1 .0 e l)
+    at : (e : ℕ) → e < g .edges → EndsHold (g .kind) (g .rows) (g .columns) (rowAt g e) (columnAt g e)
+    at e l = ends-hold (g .kind) (g .rows) (g .columns) (rowAt g e) (columnAt g e) (p .1 .0 e l)
 
 -- ---- bounds, subgraph
 
@@ -270,7 +169,7 @@ prices-passed {g} {P} bound lengths p =
       edgeRange = λ e l. front PriceRange (P .edge) (P .set) later e (omega arith);
       setRange = λ s l. back PriceRange (P .edge) (P .set) later s (omega arith);
       fewSets = few;
-      rules = λ s l. and-right (ltb s 16) (keepsRules g bound P s) (p .1 .0 s (omega (arith, few)));
+      rules = λ s l. both (ltb s 16) (keepsRules g bound P s) (p .1 .0 s (omega (arith, few))) .1;
       covering = λ e l. leZ-true (weightAt g e) (coverOf g P e) (p .1 .1 .0 e l);
     }
   where
@@ -371,7 +270,6 @@ pub record SolvePassed (g : Graph) (bound : List ℤ) (lent : Lent) : Type 0 whe
   pub chosenLong : lent .chosen ≡ g .edges
   pub vertexLong : lent .vertexPrices ≡ vertices g
   pub edgeLong : lent .edgePrices ≡ g .edges
-  pub workspaceLong : lent .workspace ≡ 4096
 
 record Sides (k : Kind) (rows columns : ℕ) : Type 0 where
   bipartite : k ≡ Bipartite
@@ -384,8 +282,8 @@ bipartite-true Bipartite rows columns edges e h =
     let sizes = held (upTo 64 rows) (upTo 64 columns ∷ leb edges 1024 ∷ []) h in
     record {
       bipartite = refl;
-      fewRows = up-to-true 64 rows (sizes .0) .1;
-      fewColumns = up-to-true 64 columns (sizes .1 .0) .1;
+      fewRows = up-to-true 64 rows (sizes .0) .greatest;
+      fewColumns = up-to-true 64 columns (sizes .1 .0) .greatest;
       columnSide = λ c. omega arith;
     }
 bipartite-true General rows columns edges e h = absurd (true≢false (sym e))
@@ -413,5 +311,4 @@ solve-passed g bound lent e =
       chosenLong = eqb-true (lent .chosen) (g .edges) (lengths .1 .1 .0);
       vertexLong = eqb-true (lent .vertexPrices) (vertices g) (lengths .1 .1 .1 .0);
       edgeLong = eqb-true (lent .edgePrices) (g .edges) (lengths .1 .1 .1 .1 .0);
-      workspaceLong = eqb-true (lent .workspace) 4096 (lengths .1 .1 .1 .1 .1 .0);
     }

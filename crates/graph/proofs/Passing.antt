@@ -1,14 +1,14 @@
 -- Laws of the lowest item that breaks a test, of some item with a property, and of tests in their order.
-use Prim.Native.Nat.{ℕ, zero, suc, _+_, _≤_, _<_}
+use Prim.Native.Nat.{ℕ, zero, suc, _+_, _<_}
 use mathlib.Core.Path.{_≡_, refl, sym, ap, ap₂, _∙_}
-use mathlib.Core.Bool.{Bool, true, false, cond, _||_, or-true, or-false}
+use mathlib.Core.Bool.{Bool, true, false, cond, _||_, or-true}
 use mathlib.Core.List.{List, [], _∷_, _++_}
 use mathlib.Core.Option.{Option, none, some}
 use native.Mathlib.Omega.{arith}
 use native.Mathlib.Numerals.{add-one}
 use native.Mathlib.Decide.{ℕ-discrete}
 use Rattle.graph.specs.declared.Fault.{Fault}
-use Rattle.graph.specs.Refusal.{Outcome, yields, refuses, Test, once, each, orElse, lowest, found, passing}
+use Rattle.graph.specs.Refusal.{Outcome, yields, refuses, Test, once, orElse, lowest, found, passing}
 use Rattle.graph.specs.Graph.{some?}
 
 -- What cannot be.
@@ -18,9 +18,6 @@ zero-one e = absurd (omega arith)
 -- A property of each item below n, and of n, is one of each below n + 1.
 pub up-to : {P : ℕ → Type 0} {n : ℕ} → ((k : ℕ) → k < n → P k) → P n → (k : ℕ) → k < suc n → P k
 up-to {P} {n} below here k l = elim (ℕ-discrete n k) [ yes e ↦ rw e at here | no e ↦ below k (omega (arith, e)) ]
-
-pub lowest-next : (n : ℕ) (f : ℕ → Bool) → lowest (n + 1) f ≡ orElse (lowest n f) (cond (f n) none (some n))
-lowest-next n f = ap (λ k. lowest k f) (add-one n)
 
 -- No item breaks the test.
 pub lowest-none : (n : ℕ) (f : ℕ → Bool) → lowest n f ≡ none → (k : ℕ) → k < n → f k ≡ true
@@ -131,3 +128,27 @@ module _ {A : Type 0} where
   pub once-yields : (f : Fault) (b : Bool) (ts : List Test) (o : Outcome A) (a : A) → passing (once f b ∷ ts) o ≡ yields a → (b ≡ true) × (passing ts o ≡ yields a)
   once-yields f true ts o a e = (refl, e)
   once-yields f false ts o a e = zero-one (cc)
+
+-- Every item keeps its test.
+abbrev pub Passes : List Test → Type 0
+Passes [] = Unit {0}
+Passes (t ∷ ts) = ((k : ℕ) → k < t .items → t .keeps k ≡ true) × Passes ts
+
+pub passes : {A : Type 0} (ts : List Test) (o : Outcome A) (a : A) → passing ts o ≡ yields a → Passes ts × (o ≡ yields a)
+passes [] o a e = (tt, e)
+passes (t ∷ ts) o a e =
+    let h = passing-yields t ts o a e in
+    let r = passes ts o a (h .1) in
+    ((lowest-none (t .items) (t .keeps) (h .0), r .0), r .1)
+
+pub pass : {A : Type 0} (ts : List Test) → Passes ts → (o : Outcome A) → passing ts o ≡ o
+pass [] p o = refl
+pass (t ∷ ts) p o = passing-none t ts o (none-lowest (t .items) (t .keeps) (p .0)) ∙ pass ts (p .1) o
+
+pub passes-split : (ts us : List Test) → Passes (ts ++ us) → Passes ts × Passes us
+passes-split [] us p = (tt, p)
+passes-split (t ∷ ts) us p = let r = passes-split ts us (p .1) in ((p .0, r .0), r .1)
+
+pub passes-join : (ts us : List Test) → Passes ts → Passes us → Passes (ts ++ us)
+passes-join [] us p q = q
+passes-join (t ∷ ts) us p q = (p .0, passes-join ts us (p .1) q)

@@ -1,15 +1,14 @@
 -- The tests that calls make on a graph's numbers, on bounds and on a subgraph, in the order of document 01.
-use Prim.Native.Nat.{ℕ, _+_}
+use Prim.Native.Nat.{ℕ}
 use mathlib.Core.Bool.{Bool, true, false, not, _&&_}
-use mathlib.Core.List.{List, [], _∷_, _++_}
+use mathlib.Core.List.{List, [], _∷_}
 use lib.Dec.{leb, eqb}
 use lib.IntN.{ℤ, pos}
 use lib.ListN.{length}
 use lib.Signed.{leZ}
 use Rattle.graph.specs.declared.Kind.{Kind}
 use Rattle.graph.specs.declared.Kind.the-variants.{Bipartite, General}
-use Rattle.graph.specs.declared.Fault.{Fault}
-use Rattle.graph.specs.declared.Fault.the-variants.{Sizes, Ends, Weight, SameEnds, LentLength, Bound, Mark, Degree, NotBipartite}
+use Rattle.graph.specs.declared.Fault.the-variants.{Sizes, Ends, Weight, SameEnds, Bound, Mark, Degree, NotBipartite}
 use Rattle.graph.specs.Refusal.{Test, once, each}
 use Rattle.graph.specs.Graph.{Graph, vertices, rowAt, columnAt, weightAt, boundAt, sizesInRange, endsInRange, weightInRange, boundInRange, joined}
 use Rattle.graph.specs.Subgraph.{markAt, degree}
@@ -17,9 +16,6 @@ use Rattle.graph.specs.Subgraph.{markAt, degree}
 -- The lent lengths (9): what is lent of the graph is as long as the number of edges passed.
 abbrev pub graphLengths : Graph → Bool
 graphLengths g = eqb (length (g .row)) (g .edges) && eqb (length (g .column)) (g .edges) && eqb (length (g .weight)) (g .edges)
-
-abbrev pub lengthTest : Bool → Test
-lengthTest b = once LentLength b
 
 -- The tests on a graph's numbers: sizes (4), ends (6), weights (7), and no edge with the ends of an earlier one (8).
 abbrev pub graphTests : Graph → List Test

@@ -17,6 +17,7 @@ use Rattle.graph.specs.declared.Fault.the-variants.{SameEnds}
 use Rattle.graph.specs.declared.Refusal.{Refusal}
 use Rattle.graph.specs.Refusal.{Outcome, yields, refuses, reported, filled}
 use Rattle.graph.specs.Graph.{Graph, sizesInRange, weightInRange, joined}
+use Rattle.graph.proofs.Ranges.{sizes-hold}
 use Rattle.layout.specs.Text.{lines, blankLine, words, natural, integer, threeWords}
 use Rattle.layout.specs.Lines.{goes, stops, reading, begun, onStep}
 use Rattle.layout.specs.GraphText.{noEdges, withEdge, graphEdge, graphLayout}
@@ -26,7 +27,7 @@ use Rattle.lines.specs.declared.FoundLine.{FoundLine}
 use Rattle.lines.specs.declared.FoundLine.the-variants as FoundLine
 use Rattle.lines.specs.Found.{nextData, foundSays, FoundInside}
 use Rattle.checks.specs.Checks.{graphOf, Flagged, flagAt, Seen}
-use Rattle.checks.proofs.Ranges.{sizes-hold, ends-flagged}
+use Rattle.checks.proofs.Ranges.{ends-flagged}
 use Rattle.checks.proofs.Sound.{weight-hold}
 use Rattle.checks.proofs.Ends.{seen-flag, seen-append}
 use Rattle.phases.specs.Phase.{Reached, from}

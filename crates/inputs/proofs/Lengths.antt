@@ -10,7 +10,7 @@ use Rattle.graph.specs.Refusal.{Outcome, yields, Test, once, passing}
 use Rattle.graph.specs.Graph.{Graph}
 use Rattle.graph.specs.Tests.{graphLengths}
 use Rattle.graph.proofs.Passing.{once-yields}
-use Rattle.checks.proofs.Ranges.{both}
+use Rattle.graph.proofs.Ranges.{both}
 
 -- What is lent of the graph is as long as the number of edges passed.
 pub record LengthsHold (g : Graph) : Type 0 where

@@ -1,20 +1,15 @@
 -- An integer as a difference of two naturals: by these laws an equation or an order of integers becomes one of naturals.
 use mathlib.Core.Path.{_≡_, refl, sym, ap, ap₂, _∙_}
-use Prim.Native.Nat.{ℕ, zero, suc, _+_, _*_, _≤_}
+use Prim.Native.Nat.{ℕ, suc, _+_, _*_}
 use native.Mathlib.Omega.{arith}
 use native.Mathlib.Nat.{mul-add}
 use lib.IntN.{ℤ, pos, negsuc, negℤ, negℤ-negℤ, negℤ-+ℤ, _+ℤ_, _-ℤ_, _*ℤ_}
-use lib.Signed.{_≤ℤ_}
 use Rattle.integers.specs.Integer.{up, dn}
-use Rattle.integers.specs.Sum.{sum, sumℤ}
-use Rattle.integers.proofs.Order.{up-add, up-neg, up-diff, up-times, order}
+use Rattle.integers.proofs.Order.{up-add, up-neg, up-times, order}
 
 -- z is a - b
 pub record Diff (z : ℤ) (a b : ℕ) : Type 0 where
   pub diff : up z + b ≡ a + dn z
-
-pub diff-nat : (a b : ℕ) → Diff (pos a -ℤ pos b) a b
-diff-nat a b = omega (arith, up-diff (pos a) (pos b))
 
 pub diff-self : (z : ℤ) → Diff z (up z) (dn z)
 diff-self z = omega arith
@@ -32,22 +27,8 @@ pub diff-times : (k : ℕ) {x : ℤ} {a b : ℕ} → Diff x a b → Diff (pos k 
 diff-times k {x} {a} {b} p =
     omega (arith, up-times k x, ap (λ n. k * n) (p .diff), mul-add k (up x) b, mul-add k a (dn x))
 
-pub diff-sum : (n : ℕ) (h : ℕ → ℤ) (f g : ℕ → ℕ) → ((i : ℕ) → Diff (h i) (f i) (g i)) → Diff (sumℤ n h) (sum n f) (sum n g)
-diff-sum zero h f g p = omega arith
-diff-sum (suc n) h f g p = diff-add (diff-sum n h f g p) (p n)
-
 pub diff-eq : {x y : ℤ} {a b c d : ℕ} → Diff x a b → Diff y c d → a + d ≡ c + b → x ≡ y
 diff-eq p q e = omega order
-
-pub diff-le : {x y : ℤ} {a b c d : ℕ} → Diff x a b → Diff y c d → a + d ≤ c + b → x ≤ℤ y
-diff-le p q h = omega order
-
--- and back
-pub eq-diff : {x y : ℤ} {a b c d : ℕ} → Diff x a b → Diff y c d → x ≡ y → a + d ≡ c + b
-eq-diff p q e = omega (arith, ap up e, ap dn e)
-
-pub le-diff : {x y : ℤ} {a b c d : ℕ} → Diff x a b → Diff y c d → x ≤ℤ y → a + d ≤ c + b
-le-diff p q h = omega order
 
 -- a product distributes over a sum
 nat-times-add : (k : ℕ) (x y : ℤ) → pos k *ℤ (x +ℤ y) ≡ pos k *ℤ x +ℤ pos k *ℤ y

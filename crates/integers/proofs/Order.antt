@@ -1,7 +1,6 @@
 -- omega decides orders, sums and differences of integers by their positive and negative parts; a test's answer is the order that it tests; what the machine stores reads back.
 use mathlib.Core.Path.{_≡_, refl, sym, ap, ap₂, _∙_, subst}
-use mathlib.Core.Bool.{Bool, true, false, not, cond, _&&_, and-false, true≢false, false≢true}
-use mathlib.Core.Logic.{_⊎_, inl, inr}
+use mathlib.Core.Bool.{Bool, true, false, not, cond, _&&_, true≢false, false≢true}
 use Prim.Native.Nat.{ℕ, zero, suc, _+_, _*_, _-_, _^_, _≤_, _<_}
 use native.Mathlib.Omega.{arith}
 use native.Mathlib.Nat.{mul-zero, mul-add, mul-le-mul-left}
@@ -97,16 +96,6 @@ zero-times x = omega (order, up-times 0 x)
 pub one-times : (x : ℤ) → pos 1 *ℤ x ≡ x
 one-times x = omega (order, up-times 1 x)
 
--- an integer that is a - b with b at most a is not negative
-no-dn : (z : ℤ) (a b : ℕ) → up z + b ≡ a + dn z → b ≤ a → dn z ≡ 0
-no-dn (pos n) a b e h = refl
-no-dn (negsuc n) a b e h = absurd (omega arith)
-
--- y - x where x is at most y
-pub up-left : {x y : ℤ} → x ≤ℤ y → up (y -ℤ x) + (dn y + up x) ≡ up y + dn x
-up-left {x} {y} h =
-    omega (arith, up-diff y x, no-dn (y -ℤ x) (up y + dn x) (dn y + up x) (up-diff y x) (omega (arith, le-up h)))
-
 pub nonneg : {z : ℤ} → pos 0 ≤ℤ z → z ≡ pos (up z)
 nonneg {z = pos n} h = refl
 nonneg {z = negsuc n} h = absurd (h .le)
@@ -143,9 +132,6 @@ within-add x y h k = omega (arith, add-small x y)
 
 pub within-diff : (x y : ℤ) {m n : ℕ} → Within m x → Within n y → Within (m + n) (x -ℤ y)
 within-diff x y h k = omega (arith, diff-small x y)
-
-pub within-neg : (x : ℤ) {n : ℕ} → Within n x → Within n (negℤ x)
-within-neg x h = omega (arith, up-neg x)
 
 pub within-times : (k : ℕ) (x : ℤ) {n : ℕ} → Within n x → Within (k * n) (pos k *ℤ x)
 within-times k x {n} h = omega (arith, up-times k x, mul-add k (up x) (dn x), mul-le-mul-left k h)
@@ -222,22 +208,8 @@ between-true lo hi z e = go (leZ lo z) (leZ z hi) refl refl e
     go true false p q e = absurd (false≢true e)
     go false t p q e = absurd (false≢true e)
 
-pub between-false : (lo hi z : ℤ) → between lo hi z ≡ false → (z <ℤ lo) ⊎ (hi <ℤ z)
-between-false lo hi z e = go (leZ lo z) (leZ z hi) refl refl e
-  where
-    go : (s t : Bool) → leZ lo z ≡ s → leZ z hi ≡ t → (s && t) ≡ false → (z <ℤ lo) ⊎ (hi <ℤ z)
-    go true true p q e = absurd (true≢false e)
-    go true false p q e = inr (leZ-false z hi q)
-    go false t p q e = inl (leZ-false lo z p)
-
 pub le-between : {lo hi z : ℤ} → lo ≤ℤ z → z ≤ℤ hi → between lo hi z ≡ true
 le-between h k = ap₂ _&&_ (le-leZ h) (le-leZ k)
-
-pub below-between : {lo z : ℤ} (hi : ℤ) → z <ℤ lo → between lo hi z ≡ false
-below-between {lo} {z} hi h = ap (λ (t : Bool). t && leZ z hi) (lt-leZ h)
-
-pub above-between : {hi z : ℤ} (lo : ℤ) → hi <ℤ z → between lo hi z ≡ false
-above-between {hi} {z} lo h = ap (λ (t : Bool). leZ lo z && t) (lt-leZ h) ∙ and-false (leZ lo z)
 
 -- ---- the machine's numbers
 

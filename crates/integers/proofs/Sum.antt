@@ -1,5 +1,5 @@
 -- The laws of finite sums of naturals and of integers.
-use mathlib.Core.Path.{_≡_, refl, sym, ap, _∙_, subst}
+use mathlib.Core.Path.{_≡_, refl, sym, ap, _∙_}
 use mathlib.Core.Logic.{_≢_}
 use mathlib.Core.Bool.{Bool, true, false, cond}
 use Prim.Native.Nat.{ℕ, zero, suc, _+_, _*_, _≤_, _<_}
@@ -9,10 +9,9 @@ use lib.Dec.{eqb}
 use lib.IntN.{ℤ, pos, negℤ, _+ℤ_, _-ℤ_, _*ℤ_, +ℤ-idr, +ℤ-comm, +ℤ-assoc, *ℤ-zero, negℤ-+ℤ}
 use lib.Signed.{_≤ℤ_, ≤ℤ-refl}
 use borrow.Author.Tests.{eq-eqb, ne-eqb}
-use Rattle.integers.specs.Integer.{up, dn, Within}
 use Rattle.integers.specs.Sum.{sum, sumℤ, is}
-use Rattle.integers.proofs.Order.{order, up-times, zero-times, one-times, add-le, add-small}
-use Rattle.integers.proofs.Diff.{diff-sum, diff-self, times-add}
+use Rattle.integers.proofs.Order.{zero-times, one-times, add-le}
+use Rattle.integers.proofs.Diff.{times-add}
 use Rattle.integers.proofs.Total as total
 use Rattle.integers.proofs.Total.{Summing, related, image}
 
@@ -60,14 +59,8 @@ sum-add = total.add naturals
 pub sum-scale : (n k : ℕ) (f : ℕ → ℕ) → sum n (λ i. k * f i) ≡ k * sum n f
 sum-scale n k f = image naturals naturals (λ a. k * a) (mul-zero k) (mul-add k) n f
 
-pub sum-swap : (n m : ℕ) (f : ℕ → ℕ → ℕ) → sum n (λ i. sum m (λ j. f i j)) ≡ sum m (λ j. sum n (λ i. f i j))
-sum-swap = total.exchange naturals
-
 pub sum-split : (n k : ℕ) (f : ℕ → ℕ) → sum (n + k) f ≡ sum n f + sum k (λ i. f (n + i))
 sum-split = total.split naturals
-
-pub sum-zero : (n : ℕ) → sum n (λ i. 0) ≡ 0
-sum-zero = total.zeros naturals
 
 pub sum-none : (n : ℕ) (f : ℕ → ℕ) → ((i : ℕ) → i < n → f i ≡ 0) → sum n f ≡ 0
 sum-none = total.nothing naturals
@@ -115,9 +108,6 @@ sumℤ-next = total.next integers
 pub sumℤ-cong : (n : ℕ) (f g : ℕ → ℤ) → ((i : ℕ) → i < n → f i ≡ g i) → sumℤ n f ≡ sumℤ n g
 sumℤ-cong = total.cong integers
 
-pub sumℤ-mono : (n : ℕ) (f g : ℕ → ℤ) → ((i : ℕ) → i < n → f i ≤ℤ g i) → sumℤ n f ≤ℤ sumℤ n g
-sumℤ-mono = related integers integers _≤ℤ_ (≤ℤ-refl (pos 0)) (λ a c b d h k. add-le h k)
-
 pub sumℤ-add : (n : ℕ) (f g : ℕ → ℤ) → sumℤ n (λ i. f i +ℤ g i) ≡ sumℤ n f +ℤ sumℤ n g
 sumℤ-add = total.add integers
 
@@ -133,17 +123,8 @@ sumℤ-scale n c f = image integers integers (λ z. c *ℤ z) (*ℤ-zero c) (tim
 pub sumℤ-swap : (n m : ℕ) (f : ℕ → ℕ → ℤ) → sumℤ n (λ i. sumℤ m (λ j. f i j)) ≡ sumℤ m (λ j. sumℤ n (λ i. f i j))
 sumℤ-swap = total.exchange integers
 
-pub sumℤ-split : (n k : ℕ) (f : ℕ → ℤ) → sumℤ (n + k) f ≡ sumℤ n f +ℤ sumℤ k (λ i. f (n + i))
-sumℤ-split = total.split integers
-
-pub sumℤ-zero : (n : ℕ) → sumℤ n (λ i. pos 0) ≡ pos 0
-sumℤ-zero = total.zeros integers
-
 pub sumℤ-none : (n : ℕ) (f : ℕ → ℤ) → ((i : ℕ) → i < n → f i ≡ pos 0) → sumℤ n f ≡ pos 0
 sumℤ-none = total.nothing integers
-
-pub sumℤ-change : (n k : ℕ) (f g : ℕ → ℤ) → k < n → ((i : ℕ) → i < n → i ≢ k → f i ≡ g i) → sumℤ n f +ℤ g k ≡ sumℤ n g +ℤ f k
-sumℤ-change = total.change integers
 
 pub sumℤ-alone : (n k : ℕ) (f : ℕ → ℤ) → k < n → ((i : ℕ) → i < n → i ≢ k → f i ≡ pos 0) → sumℤ n f ≡ f k
 sumℤ-alone = total.alone integers
@@ -157,24 +138,7 @@ sumℤ-at n k f l =
 pub sumℤ-nonneg : (n : ℕ) (f : ℕ → ℤ) → ((i : ℕ) → i < n → pos 0 ≤ℤ f i) → pos 0 ≤ℤ sumℤ n f
 sumℤ-nonneg n f = related integers integers (λ a b. pos 0 ≤ℤ b) (≤ℤ-refl (pos 0)) (λ a c b d h k. add-le h k) n f f
 
-pub sumℤ-term : (n k : ℕ) (f : ℕ → ℤ) → k < n → ((i : ℕ) → i < n → pos 0 ≤ℤ f i) → f k ≤ℤ sumℤ n f
-sumℤ-term n k f l h =
-    subst (λ (z : ℤ). z ≤ℤ sumℤ n f) (sumℤ-at n k f l)
-    (sumℤ-mono n (λ i. pos (is k i) *ℤ f i) f (λ i b. go (f i) (eqb k i) (h i b)))
-  where
-    go : (z : ℤ) (b : Bool) → pos 0 ≤ℤ z → (pos (cond b 1 0) *ℤ z) ≤ℤ z
-    go z true p = omega (order, up-times 1 z)
-    go z false p = omega (order, up-times 0 z)
-
-pub within-sum : (n m : ℕ) (f : ℕ → ℤ) → ((i : ℕ) → i < n → Within m (f i)) → Within (n * m) (sumℤ n f)
-within-sum n m f h =
-    subst (λ (k : ℕ). Within k (sumℤ n f)) (sum-const n m)
-    (related integers naturals (λ z k. Within k z) (omega arith) (λ x y a b p q. omega (arith, add-small x y)) n f (λ i. m) h)
-
 -- ---- the two sums joined
 
 pub sumℤ-pos : (n : ℕ) (f : ℕ → ℕ) → sumℤ n (λ i. pos (f i)) ≡ pos (sum n f)
 sumℤ-pos = image naturals integers pos refl (λ a b. refl)
-
-pub sumℤ-parts : (n : ℕ) (f : ℕ → ℤ) → up (sumℤ n f) + sum n (λ i. dn (f i)) ≡ sum n (λ i. up (f i)) + dn (sumℤ n f)
-sumℤ-parts n f = diff-sum n f (λ i. up (f i)) (λ i. dn (f i)) (λ i. diff-self (f i)) .diff

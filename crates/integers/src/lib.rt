@@ -2,8 +2,8 @@
 ghost use mathlib.Core.Path.{_≡_};
 ghost use Prim.Native.Nat.{_+_, _^_, _<_, _≤_};
 ghost use lib.ListN.{length, getD};
-ghost use lib.IntN.{pos, negℤ, _+ℤ_, _-ℤ_, _*ℤ_};
-ghost use lib.Signed.{_≤ℤ_, leZ, ltZ};
+ghost use lib.IntN.{pos, _+ℤ_, _-ℤ_, _*ℤ_};
+ghost use lib.Signed.{_≤ℤ_, leZ};
 ghost use Rattle.integers.specs.Integer.{up, dn, Within, between};
 
 // A number of 32 bits as one of 64.
@@ -36,14 +36,6 @@ pub fn subtract(a: i64, b: i64) -> i64
     a - b
 }
 
-// A number with its sign changed.
-pub fn negate(a: i64) -> i64
-    requires { ⌜ Within (2 ^ 62) a ⌝ }
-    ensures { λ r. ⌜ r ≡ negℤ a ⌝ }
-{
-    -a
-}
-
 // A number taken a small count of times.
 pub fn scale(k: u32, x: i64) -> i64
     requires { ⌜ (k ≤ 2 ^ 16) × Within (2 ^ 40) x ⌝ }
@@ -60,13 +52,6 @@ pub fn if_chosen(mark: u8, x: i64) -> i64
     if mark == 1 { x } else { 0 }
 }
 
-// Whether a is less than b.
-pub fn less(a: i64, b: i64) -> bool
-    ensures { λ r. ⌜ r ≡ ltZ a b ⌝ }
-{
-    a < b
-}
-
 // Whether a is at most b.
 pub fn at_most(a: i64, b: i64) -> bool
     ensures { λ r. ⌜ r ≡ leZ a b ⌝ }
@@ -79,14 +64,6 @@ pub fn in_range(x: i32, low: i32, high: i32) -> bool
     ensures { λ r. ⌜ r ≡ between low high x ⌝ }
 {
     low <= x && x <= high
-}
-
-// A number of 64 bits that is small enough, as one of 32.
-pub fn narrow(x: i64) -> i32
-    requires { ⌜ Within (2 ^ 30) x ⌝ }
-    ensures { λ r. ⌜ r ≡ x ⌝ }
-{
-    x as i32
 }
 
 // A number that is not negative, as a natural number.

@@ -1,7 +1,6 @@
 -- What the answers of the calls on texts say: document 01's values, or a refusal's fault and place.
 use Prim.Native.Nat.{ℕ}
 use Rattle.graph.specs.declared.Kind.{Kind}
-use Rattle.graph.specs.declared.Refusal.{Refusal}
 use Rattle.graph.specs.Refusal.{Outcome, yields, refuses}
 use Rattle.graph.specs.Graph.{Graph}
 use Rattle.layout.specs.declared.GraphAnswer.{GraphAnswer}

@@ -1,6 +1,6 @@
 -- The text of a graph (sheet), and what the graph reader yields.
 use Prim.Native.Nat.{ℕ}
-use mathlib.Core.Bool.{Bool, cond, _&&_}
+use mathlib.Core.Bool.{cond, _&&_}
 use mathlib.Core.List.{List, [], _∷_, _++_}
 use mathlib.Core.Option.{Option, none, some}
 use lib.Dec.{ltb, eqb}
@@ -8,9 +8,8 @@ use lib.IntN.{ℤ}
 use lib.ListN.{length}
 use Rattle.graph.specs.declared.Kind.{Kind}
 use Rattle.graph.specs.declared.Kind.the-variants.{Bipartite, General}
-use Rattle.graph.specs.declared.Fault.{Fault}
 use Rattle.graph.specs.declared.Fault.the-variants.{TextLength, Header, SizeLine, Sizes, LaterLine, Ends, Weight, SameEnds, LentLength}
-use Rattle.graph.specs.Refusal.{Outcome, yields, refuses, once, passing}
+use Rattle.graph.specs.Refusal.{Outcome, once, passing}
 use Rattle.graph.specs.Graph.{Graph, sizesInRange, endsInRange, weightInRange, joined}
 use Rattle.layout.specs.Text.{bytes, words, natural, integer, threeWords, header, textFits}
 use Rattle.layout.specs.Lines.{Step, goes, stops, Layout, readText}

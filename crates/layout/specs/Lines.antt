@@ -3,7 +3,7 @@ use Prim.Native.Nat.{ℕ, _+_}
 use mathlib.Core.Bool.{Bool, cond, _||_}
 use mathlib.Core.List.{List, [], _∷_}
 use Rattle.graph.specs.declared.Fault.{Fault}
-use Rattle.graph.specs.declared.Fault.the-variants.{TextLength, Header, SizeLine, LaterLine}
+use Rattle.graph.specs.declared.Fault.the-variants.{Header, SizeLine, LaterLine}
 use Rattle.graph.specs.Refusal.{Outcome, yields, refuses}
 use Rattle.layout.specs.Text.{lines, lineFits, blankLine, commentLine}
 

@@ -8,9 +8,8 @@ use lib.ListN.{length, getD, set, replicate}
 use Rattle.integers.specs.Sum.{sum}
 use Rattle.graph.specs.declared.Kind.{Kind}
 use Rattle.graph.specs.declared.Kind.the-variants.{Bipartite, General}
-use Rattle.graph.specs.declared.Fault.{Fault}
 use Rattle.graph.specs.declared.Fault.the-variants.{TextLength, Header, SizeLine, Sizes, LaterLine, Ends, SameEnds, LentLength, Disagreement}
-use Rattle.graph.specs.Refusal.{Outcome, yields, refuses, Test, once, lowest, passing}
+use Rattle.graph.specs.Refusal.{Outcome, yields, once, lowest, passing}
 use Rattle.graph.specs.Graph.{Graph, rowAt, columnAt, sizesInRange, endsInRange, joins}
 use Rattle.graph.specs.Subgraph.{markAt}
 use Rattle.graph.specs.Tests.{graphLengths, graphTests, markTest}

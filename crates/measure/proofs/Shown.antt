@@ -15,12 +15,13 @@ use Rattle.graph.specs.declared.Fault.the-variants.{LentLength}
 use Rattle.graph.specs.Refusal.{Outcome, yields, once, lowest, passing}
 use Rattle.graph.specs.Graph.{Graph, vertices}
 use Rattle.graph.specs.Tests.{graphLengths, graphTests, boundTest, markTest, degreeTest}
-use Rattle.graph.proofs.Passing.{lowest-none, lowest-some}
+use Rattle.graph.proofs.Passing.{lowest-none, lowest-some, passes, passes-split}
+use Rattle.graph.proofs.Ranges.{held}
 use Rattle.dual.specs.declared.Measures.{Measures}
 use Rattle.dual.specs.Prices.{Prices, allPrices}
 use Rattle.dual.specs.Sets.{keepsRules}
 use Rattle.dual.specs.Measure.{measureLengths}
-use Rattle.duality.proofs.Passed.{held, passes, passes-split, Sound, Bounded, PriceLengths, MeasurePassed, graph-passed, bound-passed}
+use Rattle.duality.proofs.Passed.{Sound, Bounded, PriceLengths, MeasurePassed, graph-passed, bound-passed}
 use Rattle.sums.specs.Lent.{SetsFit}
 use Rattle.measure.specs.Tests.{subgraphTests}
 use Rattle.measure.specs.Lent.{SubgraphLent, Testable, Measurable}
@@ -39,8 +40,8 @@ module _ (g : Graph) (bound : List ℤ) (P : Prices) where
         each = λ e l.
             let k : e < g .edges = omega (arith, S .rowLong) in
             record {
-              row = S .rowRange e k .0;
-              column = S .columnRange e k .0;
+              row = S .rowRange e k .least;
+              column = S .columnRange e k .least;
               first = omega (arith, S .ends .first e k, S .fewVertices);
               second = omega (arith, S .ends .second e k, S .fewVertices);
             };

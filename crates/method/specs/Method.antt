@@ -1,6 +1,6 @@
 -- The state of the primal-dual method (document 001, section 3.5). Prices and weights are naturals here: a price is kept as the price plus
 -- 1,000,000, which is the level, and a weight as the weight plus 2,000,000, so that an edge's slack is its ends' prices minus its weight.
-use Prim.Native.Nat.{ℕ, suc, _+_, _*_, _≤_, _<_}
+use Prim.Native.Nat.{ℕ, _+_, _*_, _≤_, _<_}
 use mathlib.Core.Path.{_≡_}
 use mathlib.Core.Logic.{_≢_, _⊎_}
 use mathlib.Core.List.{List}

@@ -10,7 +10,7 @@ use lib.Dec.{ltb}
 use borrow.Author.Tests.{lt-ltb, le-ltb, ltb-true, ltb-false, le-leb}
 use lib.ListN.{length, length-append}
 use Rattle.layout.specs.Text.{digit, digitsAfter, natural, digits, decimal}
-use Rattle.readback.proofs.Passing.{zero-one}
+use Rattle.graph.proofs.Passing.{zero-one}
 
 pub digits-short : (k n : ℕ) → n < 10 → digits (suc k) n ≡ (48 + n) ∷ []
 unfolding digits
@@ -99,7 +99,7 @@ after-snoc (x ∷ ds) a m d h k = go (digit x) refl (λ e. after-snoc ds (a * 10
         → (digitsAfter (a * 10 + (x - 48)) ds ≡ some m → digitsAfter (a * 10 + (x - 48)) (ds ++ ((48 + d) ∷ [])) ≡ some (m * 10 + d))
         → digitsAfter a (x ∷ (ds ++ ((48 + d) ∷ []))) ≡ some (m * 10 + d)
     go true is ih = after-yes a x (ds ++ ((48 + d) ∷ [])) is ∙ ih (sym (after-yes a x ds is) ∙ h)
-    go false is ih = let z : _≡_ {A = Option ℕ} none (some m) = sym (after-no a x ds is) ∙ h in absurd (zero-one (cc))
+    go false is ih = let z : _≡_ {A = Option ℕ} none (some m) = sym (after-no a x ds is) ∙ h in (zero-one (cc))
 
 digits-read : (k n : ℕ) → n < 10 ^ k → digitsAfter 0 (digits k n) ≡ some n
 digits-read zero n h = let e : n ≡ 0 = zero-of n h in ap (digitsAfter 0) (digits-none n) ∙ after-nil 0 ∙ ap some (sym e)

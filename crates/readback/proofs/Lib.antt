@@ -1,4 +1,3 @@
-pub mod Passing
 pub mod Accepted
 pub mod Digits
 pub mod Pieces

@@ -23,7 +23,8 @@ use Rattle.layout.specs.Text.{newline, onFirst, pieces, nonEmpty, words, same, 
 use Rattle.layout.specs.Lines.{Step, goes, stops, start, sizing, reading, onLine, readLines, readText}
 use Rattle.layout.specs.SubgraphText.{subgraphKind, sameKind, subgraphHeader, Marked, subgraphSizes, edgeWith, subgraphMark, subgraphEdge, subgraphLayout, readSubgraph, chosenLines, headerText, subgraphText, writeSubgraph}
 use Rattle.readback.specs.Accepted.{Accepted}
-use Rattle.readback.proofs.Passing.{keeps-once, keeps-some, some-false, true-both, passing-all}
+use Rattle.graph.proofs.Passing.{some-lowest, some-none, pass}
+use Rattle.graph.proofs.Ranges.{_also_}
 use Rattle.readback.proofs.Accepted.{Small, small, accepted, text-is, lengths-kept, tests-kept, sizes-fewer}
 use Rattle.readback.proofs.Digits.{decimal-some, number-back}
 use Rattle.readback.proofs.Pieces.{Free, AllFree, all-free-append, lines-unlines, words-spaced, free-spaced, comment-free, decimal-no-newline, decimal-no-percent, decimal-no-blank, free-yes}
@@ -112,9 +113,11 @@ module _ (m : ℕ) (x : List ℕ) (long : length x ≡ m) where
 -- No two edges have the same ends, so an edge is found by its own.
 edge-found : {g : Graph} {x : List ℕ} → Accepted g x → (n : ℕ) → n < g .edges → edgeWith g (rowAt g n) (columnAt g n) ≡ some n
 edge-found {g} a n l =
-    keeps-some (g .edges) (λ e. not (joins g (rowAt g n) (columnAt g n) e)) n l
-    (λ k m. ap not (some-false n (joins g (rowAt g n) (columnAt g n)) (a .apart n l) k m))
-    (ap not (true-both (eq-eqb (rowAt g n) (rowAt g n) refl) (eq-eqb (columnAt g n) (columnAt g n) refl)))
+    some-lowest (g .edges) (λ e. not (joins g (rowAt g n) (columnAt g n) e)) n (record {
+      among = l;
+      breaks = ap not (eq-eqb (rowAt g n) (rowAt g n) refl also eq-eqb (columnAt g n) (columnAt g n) refl);
+      before = λ k m. ap not (some-none n (joins g (rowAt g n) (columnAt g n)) (a .apart n l) k m);
+    })
 
 -- ---- the lines of the chosen edges
 
@@ -218,9 +221,9 @@ module _ {g : Graph} {x : List ℕ} (a : Accepted g x) where
       ∙ ap (λ (t : Bool). cond t (cond agrees sizesRead (stops Disagreement)) (stops Sizes))
       (sizes-fewer (g .kind) (g .rows) (g .columns) (g .edges) (countOf g x) (a .writable .sizes) (count-le (a .writable)))
       ∙ ap (λ (t : Bool). cond t sizesRead (stops Disagreement))
-      (true-both
-      (true-both (eq-eqb (g .rows) (g .rows) refl) (eq-eqb (g .columns) (g .columns) refl))
-      (le-leb (countOf g x) (g .edges) (count-le (a .writable))))
+      (eq-eqb (g .rows) (g .rows) refl
+      also eq-eqb (g .columns) (g .columns) refl
+      also le-leb (countOf g x) (g .edges) (count-le (a .writable)))
       ∙ ap (λ (ms : List ℕ). goes (marked (countOf g x) 0 ms)) (marks-none (g .edges) x (a .writable .marks-long))
 
   size-step : onLine (subgraphLayout g) (sizing tt) sizeLine ≡ goes (reading (stateAt g x 0))
@@ -275,13 +278,14 @@ module _ {g : Graph} {x : List ℕ} (a : Accepted g x) where
   pub text-back : readSubgraph g (length x) (subgraphText g x) ≡ yields x
   unfolding readSubgraph
   text-back =
-      passing-all (once LentLength (graphLengths g && eqb (length x) (g .edges)) ∷ graphTests g)
-      (passing (once TextLength (textFits (subgraphText g x)) ∷ []) (readText (subgraphLayout g) (subgraphText g x))) (
-        keeps-once LentLength (graphLengths g && eqb (length x) (g .edges)) (true-both (lengths-kept a) (eq-eqb (length x) (g .edges) (a .writable .marks-long))),
+      pass (once LentLength (graphLengths g && eqb (length x) (g .edges)) ∷ graphTests g) (
+        λ k l. lengths-kept a also eq-eqb (length x) (g .edges) (a .writable .marks-long),
         tests-kept a,
       )
-      ∙ passing-all (once TextLength (textFits (subgraphText g x)) ∷ []) (readText (subgraphLayout g) (subgraphText g x))
-      (keeps-once TextLength (textFits (subgraphText g x)) (le-leb (length (subgraphText g x)) 32768 (omega (arith, text-le (a .writable)))), tt)
+      (passing (once TextLength (textFits (subgraphText g x)) ∷ []) (readText (subgraphLayout g) (subgraphText g x)))
+      ∙ pass (once TextLength (textFits (subgraphText g x)) ∷ [])
+      (λ k l. le-leb (length (subgraphText g x)) 32768 (omega (arith, text-le (a .writable))), tt)
+      (readText (subgraphLayout g) (subgraphText g x))
       ∙ ap (readLines (subgraphLayout g) 1 start) lines-of-text ∙ all-read
 
 -- ---- the two promises

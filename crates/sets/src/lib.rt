@@ -23,7 +23,7 @@ ghost use Rattle.checks.specs.Checks.{lowestSays, graphOf};
 ghost use Rattle.sets.specs.Lent.{pricesOf, marksOf, EndsFit, EdgesFit, BoundsFit, WordsFit};
 
 // Whether odd set s marks vertex v.
-pub fn is_inside(insides: &[u64], s: usize, v: usize) -> bool
+fn is_inside(insides: &[u64], s: usize, v: usize) -> bool
     requires { ⌜ (2 * s + 2 ≤ length (now insides)) × (v < 128) ⌝ }
     ensures { λ r. ⌜ r ≡ inside (marksOf (now (insides .entry)) []) s v ⌝ }
 {
@@ -31,7 +31,7 @@ pub fn is_inside(insides: &[u64], s: usize, v: usize) -> bool
 }
 
 // Whether odd set s marks edge e.
-pub fn is_marked(markings: &[u64], s: usize, e: usize) -> bool
+fn is_marked(markings: &[u64], s: usize, e: usize) -> bool
     requires { ⌜ (16 * s + 16 ≤ length (now markings)) × (e < 1024) ⌝ }
     ensures { λ r. ⌜ r ≡ marked (marksOf [] (now (markings .entry))) s e ⌝ }
 {
@@ -46,7 +46,7 @@ fn number(b: bool) -> u8
 }
 
 // How many ends of edge e are inside odd set s.
-pub fn ends_inside(
+fn ends_inside(
     kind: Kind,
     rows: u32,
     row: &[u32],
@@ -65,7 +65,7 @@ pub fn ends_inside(
 }
 
 // Whether odd set s covers edge e: it marks the edge, or both ends are inside.
-pub fn covers_edge(
+fn covers_edge(
     kind: Kind,
     rows: u32,
     row: &[u32],
@@ -86,7 +86,7 @@ pub fn covers_edge(
 }
 
 // Whether no bit above n or m is set.
-pub fn nothing_above(
+fn nothing_above(
     kind: Kind,
     rows: u32,
     columns: u32,
@@ -106,7 +106,7 @@ pub fn nothing_above(
 }
 
 // Whether a vertex is inside.
-pub fn has_vertex(kind: Kind, rows: u32, columns: u32, insides: &[u64], s: usize) -> bool
+fn has_vertex(kind: Kind, rows: u32, columns: u32, insides: &[u64], s: usize) -> bool
     requires { ⌜ (verticesOf kind rows columns ≤ 128) × (2 * s + 2 ≤ length (now insides)) ⌝ }
     ensures { λ r. ⌜ r ≡ hasVertex (graphOf kind rows columns 0 [] [] []) (marksOf (now (insides .entry)) []) s ⌝ }
 {
@@ -144,7 +144,7 @@ fn edge_keeps(
 }
 
 // Whether each marked edge has exactly one end inside.
-pub fn one_end_inside(
+fn one_end_inside(
     kind: Kind,
     rows: u32,
     edges: u32,
@@ -184,7 +184,7 @@ fn bound_inside(bound: &[i32], insides: &[u64], s: usize, v: usize) -> u32
 }
 
 // The bounds of the vertices inside, added up.
-pub fn bounds_inside(
+fn bounds_inside(
     kind: Kind,
     rows: u32,
     columns: u32,
@@ -206,7 +206,7 @@ pub fn bounds_inside(
 }
 
 // The bounds of the vertices inside plus the marked edges, which are counted word by word.
-pub fn load(
+fn load(
     kind: Kind,
     rows: u32,
     columns: u32,
@@ -243,7 +243,7 @@ pub fn capacity(
 }
 
 // Whether odd set s keeps the rules.
-pub fn keeps_rules(
+fn keeps_rules(
     kind: Kind,
     rows: u32,
     columns: u32,

@@ -50,7 +50,7 @@ accepted {g} P = record {
   column-long = P .sound .columnLong;
   weight-long = P .sound .weightLong;
   bound-long = P .bounded .long;
-  from-one = λ e l. (P .sound .rowRange e l .0, P .sound .columnRange e l .0);
+  from-one = λ e l. (P .sound .rowRange e l .least, P .sound .columnRange e l .least);
   bounds = λ v l. P .bounded .range v l .0;
 }
 

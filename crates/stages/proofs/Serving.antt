@@ -14,7 +14,7 @@ use Rattle.graph.specs.Graph.{Graph, vertices}
 use Rattle.graph.specs.Subgraph.{degree}
 use Rattle.graph.proofs.Passing.{up-to}
 use Rattle.checks.specs.Checks.{unweighted, Countable}
-use Rattle.checks.proofs.Ranges.{both}
+use Rattle.graph.proofs.Ranges.{both}
 use Rattle.method.specs.Method.{level, limit, Sought}
 use Rattle.tree.specs.Tree.{bipartite}
 use Rattle.stages.specs.Stages.{Accepted, unserved, Served}

@@ -26,9 +26,6 @@ raise-set v k old l b =
       others = λ h n. ap up (getD-set-other old v h (pos k) (pos 0) n);
     }
 
-pub raise-not : (v k : ℕ) (old : List ℤ) → k ≤ levels old v → Raised v k old old
-raise-not v k old b = record { asked = b; kept = omega arith; most = λ m p q. p; others = λ h n. refl }
-
 -- All prices at the level.
 pub start-none : (g : Graph) (n : ℕ) → n ≡ vertices g → Started g (levels (replicate n (pos 1000000))) 0
 start-none g n e = record {

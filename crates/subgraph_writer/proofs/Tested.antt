@@ -21,7 +21,7 @@ use Rattle.checks.specs.declared.Check.the-variants as Check
 use Rattle.checks.specs.declared.Lowest.{Lowest}
 use Rattle.checks.specs.declared.Lowest.the-variants as Lowest
 use Rattle.checks.specs.Checks.{lowestSays, checkSays}
-use Rattle.checks.proofs.Ranges.{both}
+use Rattle.graph.proofs.Ranges.{both}
 use Rattle.checks.proofs.Refusals.{checked-passed, checked-refused}
 use Rattle.checks.proofs.Scan.{says}
 use Rattle.inputs.proofs.Lengths.{lent-hold}

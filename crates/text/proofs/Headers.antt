@@ -80,9 +80,6 @@ module _ (l k : List ℕ) (from : Key) (at : ℕ) (is-at : from ≡ Key.After at
     rest = λ ks. ap (λ (j : ℕ). sameFolded (words (drop j l)) ks) q ∙ sym (found ne h ks (front l at)) ∙ at-from (k ∷ ks);
   }
 
-pub ended-nowhere : (l : List ℕ) (from : Key) → from ≡ Key.Not → false ≡ follow l from []
-ended-nowhere l from h = ap (λ (q : Key). follow l q []) (sym h)
-
 pub ended-at : (l : List ℕ) (from : Key) (at : ℕ) → from ≡ Key.After at → noWords (words (drop at l)) ≡ follow l from []
 ended-at l from at h = folded-end (words (drop at l)) ∙ ap (λ (q : Key). follow l q []) (sym h)
 

@@ -106,7 +106,7 @@ impl Cursor {
 }
 
 // The first word of the line from `from` on, as a part of the line; empty where there is none.
-pub fn word(line: &[u8], from: usize) -> &[u8]
+fn word(line: &[u8], from: usize) -> &[u8]
     requires { ⌜ from ≤ length (now line) ⌝ }
     ensures { λ r. ⌜ now r ≡ firstWord (words (drop from (now (line .entry)))) ⌝ }
 {
@@ -163,7 +163,7 @@ pub enum Integer {
 }
 
 // A size or an index: 1 to 9 digits.
-pub fn read_natural(w: &[u8]) -> Natural
+fn read_natural(w: &[u8]) -> Natural
     ensures { λ r. ⌜ naturalSays r ≡ natural (now (w .entry)) ⌝ }
 {
     if w.len() < 1 {
@@ -210,7 +210,7 @@ fn minus(n: Natural) -> Integer
 }
 
 // A number written as a merit is: an optional sign and 1 to 9 digits.
-pub fn read_integer(w: &[u8]) -> Integer
+fn read_integer(w: &[u8]) -> Integer
     ensures { λ r. ⌜ integerSays r ≡ integer (now (w .entry)) ⌝ }
 {
     if w.len() < 1 {
@@ -239,7 +239,7 @@ pub enum NextInteger {
 
 impl Cursor {
     // The next word of the line as a size or an index.
-    pub fn next_natural(self, line: &[u8]) -> NextNatural
+    fn next_natural(self, line: &[u8]) -> NextNatural
         requires { ⌜ self .at ≤ length (now line) ⌝ }
         ensures { λ r. ⌜ nextNaturalSays r ≡ next natural (now (line .entry)) self ⌝ }
     {
@@ -257,7 +257,7 @@ impl Cursor {
     }
 
     // The next word of the line as an integer.
-    pub fn next_integer(self, line: &[u8]) -> NextInteger
+    fn next_integer(self, line: &[u8]) -> NextInteger
         requires { ⌜ self .at ≤ length (now line) ⌝ }
         ensures { λ r. ⌜ nextIntegerSays r ≡ next integer (now (line .entry)) self ⌝ }
     {
@@ -411,7 +411,7 @@ fn to_lower(x: u8) -> u8
 }
 
 // The word w is k.
-pub fn same_word(w: &[u8], k: &[u8]) -> bool
+fn same_word(w: &[u8], k: &[u8]) -> bool
     ensures { λ r. ⌜ r ≡ same (now (w .entry)) (now (k .entry)) ⌝ }
 {
     if w.len() != k.len() {
@@ -428,7 +428,7 @@ pub fn same_word(w: &[u8], k: &[u8]) -> bool
 }
 
 // The word w, its case folded, is k.
-pub fn same_folded(w: &[u8], k: &[u8]) -> bool
+fn same_folded(w: &[u8], k: &[u8]) -> bool
     ensures { λ r. ⌜ r ≡ same (map lower (now (w .entry))) (now (k .entry)) ⌝ }
 {
     if w.len() != k.len() {

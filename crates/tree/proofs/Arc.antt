@@ -78,9 +78,6 @@ module _ {g : Graph} {bound : List ℤ} {x : List ℕ} {price : ℕ → ℕ} (go
 
 -- Both ends of an edge are vertices.
 module _ {g : Graph} (net : Network g) (x : List ℕ) (e : ℕ) (inside : e < g .edges) (mark : markAt x e ≤ 1) where
-  pub tail-in : tail g x e < vertices g
-  tail-in = ⊎-elim (λ o. omega (arith, o .from, net .first-to e inside, net .rows-in)) (λ o. omega (arith, o .from, net .second-to e inside)) (arc g x e mark)
-
   pub head-in : head g x e < vertices g
   head-in = ⊎-elim (λ o. omega (arith, o .to, net .second-to e inside)) (λ o. omega (arith, o .to, net .first-to e inside, net .rows-in)) (arc g x e mark)
 

@@ -38,9 +38,6 @@ module _ {g : Graph} {bound : List ℤ} {x : List ℕ} {price label rank label�
   pub label-in : f < vertices g
   label-in = omega (arith, l .to, head-in net x q (l .inside) (good .marks q))
 
-  pub not-root : f ≢ root
-  not-root e = omega (arith, tree .root-seen, l .new, ap rank e)
-
   -- A label that was there.
   old : (near far : Graph → ℕ → ℕ) (k h : ℕ) → h ≢ f → Link g x near far rank k (label h) h → Link g x near far rank′ k (label′ h) h
   old near far k h n i = subst (λ e. Link g x near far rank′ k e h) (sym (l .label-put .other h n))

@@ -103,7 +103,7 @@ module _ {d : List ℕ} {at : ℕ} {xs after : List ℕ} {e : ℕ} (p : Puts d a
 
 -- ---- a part that was lent from `at` on, and is back
 
-pub part-is : (d : List ℕ) (at : ℕ) → take (length d - at) (drop at d) ≡ drop at d
+pub part-is : {N : Type 0} (d : List N) (at : ℕ) → take (length d - at) (drop at d) ≡ drop at d
 part-is d at = take-all (length d - at) (drop at d) (omega (arith, length-drop at d))
 
 -- It has as many bytes as d has from `at` on.

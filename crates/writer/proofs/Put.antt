@@ -1,25 +1,17 @@
--- What `clear`, `put_number` and `put_bytes` write.
+-- What `put_number` and `put_bytes` write.
 use mathlib.Core.Path.{_≡_, refl, sym, ap, _∙_}
-use mathlib.Core.List.{List, [], _∷_, _++_, append-nil}
+use mathlib.Core.List.{List, [], _∷_, _++_}
 use Prim.Native.Nat.{ℕ, _+_, _/_, _%_, _^_, _≤_, _<_}
 use native.Mathlib.Nat.{lt-of-lt-of-le}
 use native.Mathlib.Numerals.{add-one}
 use native.Mathlib.Omega.{arith}
 use lib.Dec.{lit≤}
-use lib.ListN.{length, take, drop, getD, set, replicate, drop-of-length-le}
+use lib.ListN.{length, take, getD, set}
 use lib.Seq.{take-suc, take-all, length-take-le}
 use Rattle.layout.specs.Text.{decimal}
 use Rattle.readback.proofs.Digits.{tenth, decimal-short, decimal-long, decimal-few}
 use Rattle.writer.specs.Written.{Puts, over}
 use Rattle.writer.proofs.Over.{puts-none, puts-byte, puts-same}
-
--- ---- zeros
-
--- Where the loop that fills d with zeros ends.
-pub zeros-end : (d l : List ℕ) (i : ℕ) → length d ≤ i → i ≤ length d → l ≡ replicate i 0 ++ drop i d → l ≡ replicate (length d) 0
-zeros-end d l i le ge e =
-    let q : i ≡ length d = omega arith in
-    e ∙ ap (λ (r : List ℕ). replicate i 0 ++ r) (drop-of-length-le d le) ∙ append-nil (replicate i 0) ∙ ap (λ (k : ℕ). replicate k 0) q
 
 -- ---- a number
 

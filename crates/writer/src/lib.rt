@@ -12,17 +12,6 @@ ghost use Rattle.layout.specs.SubgraphText.{headerText};
 ghost use Rattle.readback.specs.Accepted.{Writable};
 ghost use Rattle.writer.specs.Written.{Puts, Written, edgeLines, graphOf};
 
-// Sets every byte of `out` to 0.
-pub fn clear(out: &mut [u8])
-    ensures { λ _. ⌜ now (out .exit) ≡ replicate (length (now (out .entry))) 0 ⌝ }
-{
-    let mut i = 0;
-    while i < out.len() {
-        out[i] = 0;
-        i += 1;
-    }
-}
-
 // Writes the digits of n at the start of `out`, with no leading zero. The result is their number.
 pub fn put_number(out: &mut [u8], n: u64) -> usize
     requires { ⌜ 20 ≤ length (now out) ⌝ }
@@ -97,7 +86,7 @@ fn put_head(out: &mut [u8], kind: Kind, rows: u32, columns: u32, count: u32) -> 
     requires { ⌜ 128 ≤ length (now out) ⌝ }
     ensures { λ r. ⌜ Puts (replicate (length (now (out .entry))) 0) 0 (unlines (headerText kind ∷ spaced (decimal rows ∷ decimal columns ∷ decimal count ∷ []) ∷ [])) (now (out .exit)) r ⌝ }
 {
-    clear(out);
+    outputs::clear_bytes(out);
     let at = put_header(out, kind);
     put_sizes(out, at, rows, columns, count)
 }

@@ -72,6 +72,14 @@ impl Lent {
         Lent::right(random, kind, rows, columns, most)
     }
 
+    /// Now and then all weights become the same.
+    pub fn level(&mut self, random: &mut Random) {
+        if random.below(4) == 0 {
+            let same = weight(random);
+            self.weight.fill(same);
+        }
+    }
+
     /// One number is made wrong.
     pub fn spoil(&mut self, random: &mut Random) {
         let far = random.pick(&[0, 65, 129, 1025, u32::MAX, u32::MAX - 3, 1 << 31]);
@@ -122,5 +130,45 @@ pub fn length(random: &mut Random, right: usize) -> usize {
         1 => right.saturating_sub(1),
         2 => 0,
         _ => right,
+    }
+}
+
+/// Bounds of `count` vertices.
+pub fn bounds(random: &mut Random, count: usize) -> Vec<i32> {
+    (0..count)
+        .map(|_| random.pick(&[0, 1, 1, 2, 3, 64]))
+        .collect()
+}
+
+/// The marks of a feasible subgraph of a right graph: of the edges that still fit, two in three.
+pub fn feasible(random: &mut Random, g: &Graph, bound: &[i32]) -> Vec<u8> {
+    let mut room = bound.to_vec();
+    let mut chosen = vec![0; g.edges as usize];
+    for (e, mark) in chosen.iter_mut().enumerate() {
+        let (a, b) = g.ends(e);
+        if room[a] > 0 && room[b] > 0 && random.below(3) > 0 {
+            room[a] -= 1;
+            room[b] -= 1;
+            *mark = 1;
+        }
+    }
+    chosen
+}
+
+/// Prices from 0 to `most`, or all of them the largest that is taken.
+pub fn prices(random: &mut Random, count: usize, most: i32, extreme: bool) -> Vec<i32> {
+    let mut price = || match extreme {
+        true => 2_000_000,
+        false => random.between(0, most),
+    };
+    (0..count).map(|_| price()).collect()
+}
+
+/// Raises the prices of the edges of a right graph until every edge is covered.
+pub fn cover(g: &Graph, vertex: &[i32], edge: &mut [i32]) {
+    for (e, price) in edge.iter_mut().enumerate() {
+        let (a, b) = g.ends(e);
+        let lacking = g.weight[e] - vertex[a] - vertex[b] - *price;
+        *price += lacking.max(0);
     }
 }

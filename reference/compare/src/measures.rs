@@ -1,6 +1,6 @@
 //! The measuring call, on graphs of both kinds with odd sets that keep and that break each rule.
 
-use crate::graphs::{length, Lent};
+use crate::graphs::{bounds, cover, feasible, length, prices, Lent};
 use crate::guard::Guarded;
 use crate::proved;
 use crate::tally::Tally;
@@ -55,27 +55,11 @@ impl Sheet {
         let graph = Lent::any(random);
         let g = graph.lend();
         let (n, m) = (graph.vertices(), g.edges as usize);
-        let bound: Vec<i32> = (0..n).map(|_| random.pick(&[0, 1, 1, 2, 3, 64])).collect();
-        let mut room = bound.clone();
-        let mut chosen = vec![0u8; m];
-        for (e, mark) in chosen.iter_mut().enumerate() {
-            let (a, b) = g.ends(e);
-            if room[a] > 0 && room[b] > 0 && random.below(3) > 0 {
-                room[a] -= 1;
-                room[b] -= 1;
-                *mark = 1;
-            }
-        }
+        let bound = bounds(random, n);
+        let chosen = feasible(random, &g, &bound);
         let extreme = random.below(20) == 0;
-        let mut price = |most: i32| {
-            if extreme {
-                2_000_000
-            } else {
-                random.between(0, most)
-            }
-        };
-        let vertex: Vec<i32> = (0..n).map(|_| price(600_000)).collect();
-        let mut edge: Vec<i32> = (0..m).map(|_| price(300_000)).collect();
+        let vertex = prices(random, n, 600_000, extreme);
+        let mut edge = prices(random, m, 300_000, extreme);
         let sets = match random.below(40) {
             0 => 16,
             1 => 17,
@@ -88,15 +72,7 @@ impl Sheet {
             vertex: vertex.clone(),
             edge: Vec::new(),
             sets,
-            price: (0..sets)
-                .map(|_| {
-                    if extreme {
-                        2_000_000
-                    } else {
-                        random.between(0, 1000)
-                    }
-                })
-                .collect(),
+            price: prices(random, sets as usize, 1000, extreme),
             set_vertices: Vec::new(),
             set_edges: Vec::new(),
             graph: graph.clone(),
@@ -107,11 +83,7 @@ impl Sheet {
             made.set_edges.extend(marked);
         }
         if random.below(6) > 0 {
-            for (e, price) in edge.iter_mut().enumerate() {
-                let (a, b) = g.ends(e);
-                let lacking = g.weight[e] - vertex[a] - vertex[b] - *price;
-                *price += lacking.max(0);
-            }
+            cover(&g, &vertex, &mut edge);
         }
         made.edge = edge;
         made

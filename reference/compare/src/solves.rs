@@ -4,7 +4,39 @@ use crate::graphs::{length, Lent};
 use crate::guard::Guarded;
 use crate::proved;
 use crate::tally::Tally;
-use reference::{largest_weight, Kind, Random};
+use reference::{largest_weight, Graph, Kind, Random, Refusal};
+
+/// What the separately written solver gives.
+pub struct Solved {
+    /// The marks of an optimal subgraph.
+    pub chosen: Vec<u8>,
+    /// The prices of the vertices.
+    pub vertex: Vec<i32>,
+    /// The prices of the edges.
+    pub edge: Vec<i32>,
+}
+
+impl Solved {
+    /// Solves a graph whose lengths are right.
+    pub fn of(g: &Graph, bound: &[i32]) -> Result<Solved, Refusal> {
+        let (n, m) = (bound.len(), g.edges as usize);
+        let (mut chosen, mut vertex, mut edge) = (vec![0; m], vec![0; n], vec![0; m]);
+        let mut workspace = vec![0; 4096];
+        reference::solve(
+            g,
+            bound,
+            &mut chosen,
+            &mut vertex,
+            &mut edge,
+            &mut workspace,
+        )?;
+        Ok(Solved {
+            chosen,
+            vertex,
+            edge,
+        })
+    }
+}
 
 /// Solves one graph by both programs and compares weights, prices and gaps. On a small one every subgraph is tried, and a length may be wrong.
 fn compare_one(random: &mut Random, lent: &Lent, bound: &[i32], tally: &mut Tally, small: bool) {
@@ -98,10 +130,7 @@ fn small(random: &mut Random, tally: &mut Tally) {
     let (rows, columns) = (1 + random.below(4) as u32, 1 + random.below(4) as u32);
     let most = random.below(11) as usize;
     let mut lent = Lent::right(random, Kind::Bipartite, rows, columns, most);
-    if random.below(4) == 0 {
-        let same = crate::graphs::weight(random);
-        lent.weight.fill(same);
-    }
+    lent.level(random);
     let mut bound: Vec<i32> = (0..lent.vertices())
         .map(|_| random.pick(&[0, 1, 1, 2, 64]))
         .collect();

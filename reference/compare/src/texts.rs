@@ -1,10 +1,6 @@
-//! The four calls on texts, on many texts, valid and damaged.
+//! Texts of graphs, numbers and subgraphs, valid and damaged.
 
-use crate::graphs::{length, Lent};
-use crate::guard::Guarded;
-use crate::proved;
-use crate::tally::Tally;
-use reference::{Kind, Random, What};
+use reference::{Graph, Kind, Random};
 
 const SPECIAL: &[u8] = &[0, 9, 10, 13, 32, 37, 43, 45, 48, 57, 65, 97, 255];
 const TOKENS: &[&str] = &[
@@ -145,7 +141,7 @@ fn text(
 }
 
 /// The lines as one text; the last may lack its byte 10.
-fn joined(random: &mut Random, lines: &[Vec<u8>]) -> Vec<u8> {
+pub fn joined(random: &mut Random, lines: &[Vec<u8>]) -> Vec<u8> {
     let mut text = lines.join(&b'\n');
     if random.below(5) > 0 {
         text.push(b'\n');
@@ -216,8 +212,23 @@ fn damage_byte(random: &mut Random, text: &mut Vec<u8>) {
     }
 }
 
+/// The text with blank lines after it until it has this length: empty ones, or long ones and then empty ones.
+pub fn padded(random: &mut Random, mut text: Vec<u8>, length: usize) -> Vec<u8> {
+    let fill = random.pick(&[b'\n', b' ']);
+    if fill == b' ' {
+        while text.len() + 1000 < length {
+            text.push(b'\n');
+            text.extend([b' '; 900]);
+        }
+    }
+    if text.len() < length {
+        text.resize(length, b'\n');
+    }
+    text
+}
+
 /// The text of some lines, damaged now and then.
-fn damaged(random: &mut Random, mut lines: Vec<Vec<u8>>) -> Vec<u8> {
+pub fn damaged(random: &mut Random, mut lines: Vec<Vec<u8>>) -> Vec<u8> {
     for _ in 0..random.below(3) {
         if lines.is_empty() {
             break;
@@ -236,16 +247,7 @@ fn damaged(random: &mut Random, mut lines: Vec<Vec<u8>>) -> Vec<u8> {
     }
     if random.below(200) == 0 {
         let length = 32_768 + random.below(2) as usize;
-        let fill = random.pick(&[b'\n', b' ']);
-        if fill == b' ' {
-            while text.len() + 1000 < length {
-                text.push(b'\n');
-                text.extend([b' '; 900]);
-            }
-        }
-        if text.len() < length {
-            text.resize(length, b'\n');
-        }
+        text = padded(random, text, length);
     }
     text
 }
@@ -257,226 +259,53 @@ fn last_word(kind: Kind) -> &'static str {
     }
 }
 
-fn graph_text(random: &mut Random) -> Vec<u8> {
-    let lent = Lent::any(random);
-    let g = lent.lend();
-    let later: Vec<_> = (0..g.edges as usize)
-        .map(|e| {
+/// A number of at most nine digits.
+fn nine_digits(number: impl Into<i64>) -> i64 {
+    number.into().clamp(-999_999_999, 999_999_999)
+}
+
+/// The lines of a text of a graph: valid for a right graph.
+pub fn graph_lines(random: &mut Random, g: &Graph) -> Vec<Vec<u8>> {
+    let ends = g.row.iter().zip(g.column);
+    let later: Vec<_> = ends
+        .zip(g.weight)
+        .map(|((&row, &column), &weight)| {
             vec![
-                (g.row[e] as i64, false),
-                (g.column[e] as i64, false),
-                (g.weight[e] as i64, true),
+                (nine_digits(row), false),
+                (nine_digits(column), false),
+                (nine_digits(weight), true),
             ]
         })
         .collect();
     let words = format!("matrix coordinate integer {}", last_word(g.kind));
-    let lines = text(
-        random,
-        &words,
-        &[g.rows as i64, g.columns as i64, g.edges as i64],
-        &later,
-    );
-    damaged(random, lines)
+    let sizes = [g.rows, g.columns, g.edges].map(nine_digits);
+    text(random, &words, &sizes, &later)
 }
 
-fn compare_graphs(random: &mut Random, tally: &mut Tally) {
-    let text = graph_text(random);
-    let lengths = [
-        length(random, 1024),
-        length(random, 1024),
-        length(random, 1024),
-    ];
-    let mut expected = (
-        vec![9; lengths[0]],
-        vec![9; lengths[1]],
-        vec![9; lengths[2]],
-    );
-    let answer = reference::read_graph(&text, &mut expected.0, &mut expected.1, &mut expected.2);
-    let lent = Guarded::of(&text, 10);
-    let mut row = Guarded::new(lengths[0], 5, 77);
-    let mut column = Guarded::new(lengths[1], 6, 77);
-    let mut weight = Guarded::new(lengths[2], -7, 77);
-    let proved = proved::read_graph(
-        lent.lend(),
-        row.lend_mut(),
-        column.lend_mut(),
-        weight.lend_mut(),
-    );
-    let agreed = answer == proved
-        && row.lend() == expected.0
-        && column.lend() == expected.1
-        && weight.lend() == expected.2
-        && row.unharmed()
-        && column.unharmed()
-        && weight.unharmed()
-        && lent.unharmed()
-        && lent.lend() == text;
-    tally.count(&answer, agreed, || {
-        format!("{answer:?} {proved:?} {:?}", String::from_utf8_lossy(&text))
-    });
+/// The lines of a text of bounds or prices: valid for numbers in range.
+pub fn number_lines(random: &mut Random, numbers: &[i32]) -> Vec<Vec<u8>> {
+    let later: Vec<_> = numbers.iter().map(|&n| vec![(n as i64, true)]).collect();
+    let sizes = [numbers.len() as i64, 1];
+    text(random, "matrix array integer general", &sizes, &later)
 }
 
-fn compare_numbers(random: &mut Random, tally: &mut Tally) {
-    let what = if random.below(2) == 0 {
-        What::Bounds
-    } else {
-        What::Prices
-    };
-    let most = if what == What::Bounds { 64 } else { 2_000_000 };
-    let held = if random.below(100) == 0 {
-        1 + random.below(1152)
-    } else {
-        1 + random.below(8)
-    } as usize;
-    let later: Vec<_> = (0..held)
-        .map(|_| vec![(random.between(0, most) as i64, true)])
-        .collect();
-    let lines = text(
-        random,
-        "matrix array integer general",
-        &[held as i64, 1],
-        &later,
-    );
-    let text = damaged(random, lines);
-    let count = match random.below(60) {
-        0 => random.pick(&[0, 1153, u32::MAX, 1 << 31]),
-        1 => held as u32 + 1,
-        _ => held as u32,
-    };
-    let long = if random.below(3) == 0 {
-        length(random, held)
-    } else {
-        (count as usize).min(4096)
-    };
-    let mut expected = vec![9; long];
-    let answer = reference::read_numbers(&text, count, what, &mut expected);
-    let lent = Guarded::of(&text, 10);
-    let mut out = Guarded::new(long, -7, 77);
-    let proved = proved::read_numbers(lent.lend(), count, what, out.lend_mut());
-    let agreed = answer == proved
-        && out.lend() == expected
-        && out.unharmed()
-        && lent.unharmed()
-        && lent.lend() == text;
-    tally.count(&answer, agreed, || {
-        format!(
-            "{answer:?} {proved:?} {count} {what:?} {long} {:?}",
-            String::from_utf8_lossy(&text)
-        )
-    });
-}
-
-/// The numbers of a graph as they are lent: now and then something is wrong.
-fn lent_graph(random: &mut Random) -> Lent {
-    let mut lent = Lent::any(random);
-    if random.below(8) == 0 {
-        lent.spoil(random);
-    }
-    lent
-}
-
-fn marks(random: &mut Random, count: usize) -> Vec<u8> {
-    let wrong = random.below(30) == 0;
-    (0..count)
-        .map(|_| {
-            if wrong && random.below(4) == 0 {
-                random.pick(&[2, 255, 1])
-            } else {
-                random.below(2) as u8
-            }
-        })
-        .collect()
-}
-
-fn compare_subgraphs(random: &mut Random, tally: &mut Tally) {
-    let lent = lent_graph(random);
-    let g = lent.lend();
-    let mut chosen: Vec<usize> = (0..lent.row.len())
-        .filter(|_| random.below(2) == 0)
-        .collect();
-    if random.below(3) == 0 {
-        chosen.reverse();
-    }
+/// The lines of a text of a subgraph with this kind in its header: valid for a right graph of this kind and different edges of it.
+pub fn subgraph_lines(
+    random: &mut Random,
+    kind: Kind,
+    g: &Graph,
+    chosen: &[usize],
+) -> Vec<Vec<u8>> {
     let later: Vec<_> = chosen
         .iter()
         .map(|&e| {
             vec![
-                (g.row[e].min(999) as i64, false),
-                (g.column.get(e).copied().unwrap_or(1).min(999) as i64, false),
+                (nine_digits(g.row[e]), false),
+                (nine_digits(g.column.get(e).copied().unwrap_or(1)), false),
             ]
         })
         .collect();
-    let kind = if random.below(40) == 0 {
-        random.pick(&[GENERAL, SYMMETRIC])
-    } else {
-        last_word(g.kind)
-    };
-    let sizes = [
-        g.rows.min(999) as i64,
-        g.columns.min(999) as i64,
-        later.len() as i64,
-    ];
-    let lines = text(
-        random,
-        &format!("matrix coordinate pattern {kind}"),
-        &sizes,
-        &later,
-    );
-    let text = damaged(random, lines);
-    let long = length(random, (g.edges as usize).min(4096));
-    let mut expected = vec![9; long];
-    let answer = reference::read_subgraph(&text, &g, &mut expected).map(|_| ());
-    let lent_text = Guarded::of(&text, 10);
-    let mut out = Guarded::new(long, 3, 77);
-    let proved = proved::read_subgraph(lent_text.lend(), &g, out.lend_mut());
-    let agreed =
-        answer == proved && out.lend() == expected && out.unharmed() && lent_text.unharmed();
-    tally.count(&answer, agreed, || {
-        format!(
-            "{answer:?} {proved:?} {g:?} {long} {:?}",
-            String::from_utf8_lossy(&text)
-        )
-    });
-}
-
-fn compare_written(random: &mut Random, tally: &mut Tally) {
-    let lent = lent_graph(random);
-    let g = lent.lend();
-    let count = length(random, (g.edges as usize).min(4096));
-    let chosen = marks(random, count);
-    let long = length(random, 16_384);
-    let mut expected = vec![9; long];
-    let answer = reference::write_subgraph(&g, &chosen, &mut expected);
-    let mut out = Guarded::new(long, 5, 77);
-    let proved = proved::write_subgraph(&g, &chosen, out.lend_mut());
-    let mut agreed = answer == proved && out.lend() == expected && out.unharmed();
-    if let Ok(length) = proved {
-        let mut back = Guarded::new(chosen.len(), 9, 77);
-        let read = proved::read_subgraph(&out.lend()[..length], &g, back.lend_mut());
-        agreed = agreed && read == Ok(()) && back.lend() == chosen;
-    }
-    tally.count(&answer, agreed, || {
-        format!("{answer:?} {proved:?} {g:?} {chosen:?} {long}")
-    });
-}
-
-/// Compares `count` texts of each sort; true if the two programs agreed on all.
-pub fn compare(seed: u64, count: u64) -> Vec<bool> {
-    let mut random = Random::new(seed);
-    let mut graphs = Tally::new("graph reader");
-    let mut numbers = Tally::new("number reader");
-    let mut subgraphs = Tally::new("subgraph reader");
-    let mut written = Tally::new("subgraph writer, and reading back");
-    for _ in 0..count {
-        compare_graphs(&mut random, &mut graphs);
-        compare_numbers(&mut random, &mut numbers);
-        compare_subgraphs(&mut random, &mut subgraphs);
-        compare_written(&mut random, &mut written);
-    }
-    vec![
-        graphs.report(count, &[1, 2, 3, 4, 5, 6, 7, 8, 9]),
-        numbers.report(count, &[1, 2, 3, 4, 5, 9, 10, 13]),
-        subgraphs.report(count, &[1, 2, 3, 4, 5, 6, 7, 8, 9, 17]),
-        written.report(count, &[4, 6, 7, 8, 9, 11]),
-    ]
+    let words = format!("matrix coordinate pattern {}", last_word(kind));
+    let sizes = [g.rows, g.columns, later.len() as u32].map(nine_digits);
+    text(random, &words, &sizes, &later)
 }

@@ -1,31 +1,35 @@
-//! The proved calls on the examples of the repository.
+//! The separately written program and the proved calls on the examples of the repository.
 
-use compare::files::{mark, solve, Sheet};
+use compare::examples::example;
 use compare::proved;
-use std::path::PathBuf;
+use reference::programs::Input;
+use reference::{mark_output, solve_output};
 
-fn folder(name: &str) -> PathBuf {
-    PathBuf::from(env!("CARGO_MANIFEST_DIR"))
-        .join("../../examples")
-        .join(name)
+fn solve(name: &str) -> String {
+    String::from_utf8(solve_output(&example(name).lend())).unwrap()
+}
+
+fn mark(name: &str) -> String {
+    String::from_utf8(mark_output(&example(name).lend())).unwrap()
 }
 
 #[test]
 fn the_worked_example_is_solved_and_marked() {
     let plan = "%%MatrixMarket matrix coordinate pattern general\n2 2 2\n1 2\n2 1\n";
-    assert_eq!(solve(&folder("worked")), plan);
+    assert_eq!(solve("examples/worked"), plan);
     assert_eq!(
-        mark(&folder("worked")),
+        mark("examples/worked"),
         "merit 6 total 8 fish 0 groups 0 pairs 0 cover 2 gap 2\n"
     );
 }
 
 #[test]
 fn the_season_has_one_best_plan() {
-    let plan = std::fs::read_to_string(folder("season").join("plan.mtx")).unwrap();
-    assert_eq!(solve(&folder("season")), plan);
+    let season = example("examples/season");
+    let plan = season.lend().subgraph.unwrap();
+    assert_eq!(solve_output(&season.lend()), plan);
     assert_eq!(
-        mark(&folder("season")),
+        mark("examples/season"),
         "merit 2960 total 2960 fish 0 groups 0 pairs 0 cover 0 gap 0\n"
     );
 }
@@ -46,18 +50,21 @@ fn the_class_is_marked() {
         ("damaged", "refused 5 at 7 in plan.mtx\n"),
     ];
     for (name, line) in lines {
-        assert_eq!(mark(&folder("class").join(name)), line, "{name}");
+        assert_eq!(mark(&format!("examples/class/{name}")), line, "{name}");
     }
 }
 
 #[test]
 fn the_tank_has_gap_0_with_its_group_and_not_without() {
-    let sheet = Sheet::read(&folder("tank")).unwrap();
-    let plan = sheet.plan(&folder("tank")).unwrap();
+    let tank = example("examples/tank");
+    let input = Input::read(&tank.lend()).unwrap();
+    let g = input.graph();
+    let mut plan = vec![0; g.edges as usize];
+    proved::read_subgraph(tank.lend().subgraph.unwrap(), &g, &mut plan).unwrap();
     let edges = [0; 16];
     let group = proved::measure(
-        &sheet.graph(),
-        sheet.bound(),
+        &g,
+        input.bound(),
         &plan,
         &[0, 0, 2, 4, 0],
         &[0; 5],
@@ -69,8 +76,8 @@ fn the_tank_has_gap_0_with_its_group_and_not_without() {
     let group = group.unwrap();
     assert_eq!((group.weight, group.total, group.gap), (16, 16, 0));
     let halves = proved::measure(
-        &sheet.graph(),
-        sheet.bound(),
+        &g,
+        input.bound(),
         &plan,
         &[5, 5, 5, 4, 0],
         &[0; 5],
@@ -80,10 +87,10 @@ fn the_tank_has_gap_0_with_its_group_and_not_without() {
         &[],
     );
     assert_eq!(halves.unwrap().gap, 3);
-    assert_eq!(solve(&folder("tank")), "refused 16 at 0 in input\n");
+    assert_eq!(solve("examples/tank"), "refused 16 at 0 in input\n");
 }
 
 #[test]
 fn an_absent_file_is_an_empty_text() {
-    assert_eq!(solve(&folder("nowhere")), "refused 2 at 1 in sheet.mtx\n");
+    assert_eq!(solve("examples/nowhere"), "refused 2 at 1 in sheet.mtx\n");
 }

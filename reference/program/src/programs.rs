@@ -21,9 +21,12 @@ pub struct Files<'a> {
 }
 
 /// A refusal and where it comes from.
-struct Refused {
-    refusal: Refusal,
-    from: &'static str,
+#[derive(Clone, Copy, Debug, PartialEq, Eq)]
+pub struct Refused {
+    /// The refusal.
+    pub refusal: Refusal,
+    /// The name of the file whose reader refuses, or `input`.
+    pub from: &'static str,
 }
 
 /// Names where a refusal comes from.
@@ -32,9 +35,9 @@ fn from(from: &'static str) -> impl Fn(Refusal) -> Refused {
 }
 
 /// The bytes to print: a result or the line of a refusal.
-fn printed(result: Result<Vec<u8>, Refused>) -> Vec<u8> {
+pub fn printed(result: &Result<Vec<u8>, Refused>) -> Vec<u8> {
     match result {
-        Ok(bytes) => bytes,
+        Ok(bytes) => bytes.clone(),
         Err(Refused {
             refusal: Refusal { number, place },
             from,
@@ -43,7 +46,7 @@ fn printed(result: Result<Vec<u8>, Refused>) -> Vec<u8> {
 }
 
 /// A graph, its bounds and the arrays that hold them.
-struct Input {
+pub struct Input {
     head: Head,
     row: Vec<u32>,
     column: Vec<u32>,
@@ -53,7 +56,7 @@ struct Input {
 
 impl Input {
     /// Reads sheet.mtx and limits.mtx.
-    fn read(files: &Files) -> Result<Input, Refused> {
+    pub fn read(files: &Files) -> Result<Input, Refused> {
         let lent = MOST_EDGES as usize;
         let (mut row, mut column, mut weight) = (vec![0; lent], vec![0; lent], vec![0; lent]);
         let text = files.graph.unwrap_or_default();
@@ -76,7 +79,7 @@ impl Input {
     }
 
     /// The graph as lent to a call.
-    fn graph(&self) -> Graph<'_> {
+    pub fn graph(&self) -> Graph<'_> {
         let m = self.head.edges as usize;
         Graph {
             kind: self.head.kind,
@@ -88,20 +91,25 @@ impl Input {
             weight: &self.weight[..m],
         }
     }
+
+    /// The bounds (limits).
+    pub fn bound(&self) -> &[i32] {
+        &self.bound
+    }
 }
 
 /// What `solve` prints.
 pub fn solve_output(files: &Files) -> Vec<u8> {
-    printed(solve_files(files))
+    printed(&solve_files(files))
 }
 
 /// What `mark` prints.
 pub fn mark_output(files: &Files) -> Vec<u8> {
-    printed(mark_files(files))
+    printed(&mark_files(files))
 }
 
 /// The plan that `solve` prints, or its refusal.
-fn solve_files(files: &Files) -> Result<Vec<u8>, Refused> {
+pub fn solve_files(files: &Files) -> Result<Vec<u8>, Refused> {
     let input = Input::read(files)?;
     let graph = input.graph();
     let (n, m) = (input.bound.len(), graph.row.len());
@@ -124,7 +132,7 @@ fn solve_files(files: &Files) -> Result<Vec<u8>, Refused> {
 }
 
 /// The line that `mark` prints, or its refusal.
-fn mark_files(files: &Files) -> Result<Vec<u8>, Refused> {
+pub fn mark_files(files: &Files) -> Result<Vec<u8>, Refused> {
     let input = Input::read(files)?;
     let graph = input.graph();
     let (n, m) = (input.bound.len(), graph.row.len());

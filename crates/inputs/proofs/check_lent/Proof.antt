@@ -9,7 +9,7 @@ use Rattle.graph.specs.Graph.{Graph}
 use Rattle.graph.specs.Tests.{graphLengths, graphTests}
 use Rattle.graph.proofs.Passing.{once-passes, once-refuses}
 use Rattle.checks.specs.Checks.{graphOf}
-use Rattle.checks.proofs.Ranges.{both}
+use Rattle.graph.proofs.Ranges.{both}
 use Rattle.inputs.proofs.Lengths.{lengths-hold}
 use Rattle.inputs.proofs.check_lent.Statement.{statement}
 use Rattle.inputs.proofs.check_lent.Tie as tie

@@ -1,0 +1,4 @@
+// `mark`, run on the worked example of document 01.
+fn main() {
+    programs::mark();
+}

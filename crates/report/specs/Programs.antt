@@ -1,0 +1,91 @@
+-- What the two programs write, from the texts of the files they read. An absent file is an empty text.
+use Prim.Native.Nat.{ℕ, _+_}
+use mathlib.Core.Path.{_≡_}
+use mathlib.Core.List.{List}
+use lib.IntN.{ℤ}
+use lib.ListN.{take, drop}
+use Rattle.graph.specs.declared.Fault.{Fault}
+use Rattle.graph.specs.Refusal.{Outcome, yields, refuses}
+use Rattle.graph.specs.Graph.{Graph, vertices}
+use Rattle.graph.specs.Subgraph.{Optimal}
+use Rattle.layout.specs.declared.Numbers.the-variants.{Bounds, Prices}
+use Rattle.layout.specs.GraphText.{readGraph}
+use Rattle.layout.specs.NumberText.{readNumbers}
+use Rattle.layout.specs.SubgraphText.{readSubgraph, subgraphText}
+use Rattle.dual.specs.declared.Measures.{Measures}
+use Rattle.dual.specs.Measure.{measure}
+use Rattle.dual.specs.Solve.{Lent, solve, withoutSets}
+use Rattle.report.specs.declared.Source.{Source}
+use Rattle.report.specs.declared.Source.the-variants as Source
+use Rattle.report.specs.Report.{refusedLine, measuredLine, Holds}
+
+-- How far a program comes: it has a value, or the first refusal has ended it.
+pub data Run (A : Type 0) : Type 0 where
+  has : A → Run A
+  ends : Source → Fault → ℕ → Run A
+
+-- What comes from a text, or from no reader.
+abbrev pub from : {A : Type 0} → Source → Outcome A → Run A
+from source (yields a) = has a
+from source (refuses fault place) = ends source fault place
+
+abbrev pub andThen : {A B : Type 0} → Run A → (A → Run B) → Run B
+andThen (has a) next = next a
+andThen (ends source fault place) next = ends source fault place
+
+-- What is written at the end: a text of the value, or the line of the refusal.
+abbrev pub written : {A : Type 0} → (A → List ℕ) → Run A → List ℕ
+written text (has a) = text a
+written text (ends source fault place) = refusedLine source fault place
+
+-- The graph of sheet.mtx, and the bounds of limits.mtx, one for each vertex.
+pub record Problem : Type 0 where
+  pub graph : Graph
+  pub bound : List ℤ
+
+abbrev pub readBounds : Graph → List ℕ → Run Problem
+readBounds g limits =
+    andThen (from Source.Limits (readNumbers Bounds (vertices g) (vertices g) limits)) (λ bound. has (record { graph = g; bound = bound }))
+
+unfoldable pub readProblem : List ℕ → List ℕ → Run Problem
+readProblem sheet limits = andThen (from Source.Sheet (readGraph 1024 1024 1024 sheet)) (λ g. readBounds g limits)
+
+-- `mark` also reads plan.mtx and prices.mtx, first the prices of the vertices and then those of the edges, and takes no odd sets.
+abbrev pub markPrices : Graph → List ℤ → List ℕ → List ℤ → Run Measures
+markPrices g bound x prices =
+    from Source.Input (measure g bound x (withoutSets (take (vertices g) prices) (drop (vertices g) prices)))
+
+abbrev pub markPlan : Graph → List ℤ → List ℕ → List ℕ → Run Measures
+markPlan g bound x prices =
+    andThen (from Source.Prices (readNumbers Prices (vertices g + g .edges) (vertices g + g .edges) prices)) (markPrices g bound x)
+
+abbrev pub markProblem : Graph → List ℤ → List ℕ → List ℕ → Run Measures
+markProblem g bound plan prices = andThen (from Source.Plan (readSubgraph g (g .edges) plan)) (λ x. markPlan g bound x prices)
+
+-- What `mark` writes.
+unfoldable pub markOutput : List ℕ → List ℕ → List ℕ → List ℕ → List ℕ
+markOutput sheet limits plan prices =
+    written measuredLine (andThen (readProblem sheet limits) (λ P. markProblem (P .graph) (P .bound) plan prices))
+
+-- `solve` lends the solver just the lengths that the graph gives.
+abbrev pub lentFor : Graph → Lent
+lentFor g = record { chosen = g .edges; vertexPrices = vertices g; edgePrices = g .edges; workspace = 4096 }
+
+abbrev pub solveProblem : Graph → List ℤ → Run (Unit {0})
+solveProblem g bound = from Source.Input (solve g bound (lentFor g))
+
+-- What `solve` writes where x is the subgraph that it picks.
+unfoldable pub solveOutput : List ℕ → List ℕ → List ℕ → List ℕ
+solveOutput sheet limits x =
+    written (λ g. subgraphText g x)
+    (andThen (readProblem sheet limits) (λ P. andThen (solveProblem (P .graph) (P .bound)) (λ u. has (P .graph))))
+
+-- What holds of that subgraph: it is optimal, wherever the solver accepts what is read.
+pub record Picked (sheet limits x : List ℕ) : Type 0 where
+  pub optimal : (P : Problem) → readProblem sheet limits ≡ has P → solveProblem (P .graph) (P .bound) ≡ has tt → Optimal (P .graph) (P .bound) x
+
+-- What `solve` leaves in a buffer of which it writes the first r bytes.
+pub record SolveHolds (sheet limits buffer : List ℕ) (r : ℕ) : Type 0 where
+  pub chosen : List ℕ
+  pub picked : Picked sheet limits chosen
+  pub holds : Holds (solveOutput sheet limits chosen) buffer r

@@ -1,0 +1,112 @@
+// What the two programs write: the line of a refusal, and the line of a measuring.
+use dual::Measures;
+use graph::Refusal;
+use writer::put_bytes;
+use writer::put_number;
+ghost use mathlib.Core.Path.{_≡_};
+ghost use mathlib.Core.List.{_++_};
+ghost use Prim.Native.Nat.{_+_, _≤_};
+ghost use lib.ListN.{length};
+ghost use Rattle.integers.specs.Integer.{up, dn};
+ghost use Rattle.layout.specs.Text.{decimal};
+ghost use Rattle.writer.specs.Written.{Puts};
+ghost use Rattle.report.specs.Report.{nameOf, refusedLine, signed, measuredLine, Holds};
+
+// Where a refusal comes from: a text that is read, or no reader.
+pub enum Source {
+    Sheet,
+    Limits,
+    Plan,
+    Prices,
+    Input,
+}
+
+// A number without its sign. Before it is negated, z below 0 is raised by 1, so that the least number has a magnitude too.
+fn magnitude(z: i64) -> u64
+    ensures { λ r. ⌜ r ≡ up z + dn z ⌝ }
+{
+    if z < 0 {
+        (-(z + 1)) as u64 + 1
+    } else {
+        z as u64
+    }
+}
+
+// Writes the digits of n from `at` on. The result is the place after them.
+fn put_natural(out: &mut [u8], at: usize, n: u64) -> usize
+    requires { ⌜ at + 20 ≤ length (now out) ⌝ }
+    ensures { λ r. ⌜ Puts (now (out .entry)) at (decimal n) (now (out .exit)) r × (r ≤ at + 20) ⌝ }
+{
+    at + put_number(&mut out[at..], n)
+}
+
+// Writes z from `at` on, with - before a number below 0. The result is the place after it.
+fn put_signed(out: &mut [u8], at: usize, z: i64) -> usize
+    requires { ⌜ at + 21 ≤ length (now out) ⌝ }
+    ensures { λ r. ⌜ Puts (now (out .entry)) at (signed z) (now (out .exit)) r × (r ≤ at + 21) ⌝ }
+{
+    let n = magnitude(z);
+    if z < 0 {
+        out[at] = 45;
+        put_natural(out, at + 1, n)
+    } else {
+        put_natural(out, at, n)
+    }
+}
+
+// Writes a name, with the blanks at its sides, and z after it, from `at` on. The result is the place after both.
+fn put_named(out: &mut [u8], at: usize, name: &[u8], z: i64) -> usize
+    requires { ⌜ at + length (now name) + 21 ≤ length (now out) ⌝ }
+    ensures { λ r. ⌜ Puts (now (out .entry)) at (now (name .entry) ++ signed z) (now (out .exit)) r × (r ≤ at + length (now (name .entry)) + 21) ⌝ }
+{
+    let a = put_bytes(out, at, name);
+    put_signed(out, a, z)
+}
+
+// Writes FILE from `at` on. The result is the place after it.
+fn put_source(out: &mut [u8], at: usize, source: Source) -> usize
+    requires { ⌜ at + 10 ≤ length (now out) ⌝ }
+    ensures { λ r. ⌜ Puts (now (out .entry)) at (nameOf source) (now (out .exit)) r × (r ≤ at + 10) ⌝ }
+{
+    match source {
+        Source::Sheet => put_bytes(out, at, b"sheet.mtx"),
+        Source::Limits => put_bytes(out, at, b"limits.mtx"),
+        Source::Plan => put_bytes(out, at, b"plan.mtx"),
+        Source::Prices => put_bytes(out, at, b"prices.mtx"),
+        Source::Input => put_bytes(out, at, b"input"),
+    }
+}
+
+// Writes the line of a refusal at the start of `out`. The result is its length.
+pub fn put_refused(out: &mut [u8], source: Source, refusal: Refusal) -> usize
+    requires { ⌜ 128 ≤ length (now out) ⌝ }
+    ensures { λ r. ⌜ Holds (refusedLine source (refusal .fault) (refusal .place)) (now (out .exit)) r ⌝ }
+{
+    let fault = refusal.fault;
+    let place = refusal.place;
+    let number = graph::number(fault) as u64;
+    let mut at = put_bytes(out, 0, b"refused ");
+    at = put_natural(out, at, number);
+    at = put_bytes(out, at, b" at ");
+    at = put_natural(out, at, place);
+    at = put_bytes(out, at, b" in ");
+    at = put_source(out, at, source);
+    out[at] = 10;
+    at + 1
+}
+
+// Writes the line of a measuring at the start of `out`. The result is its length.
+pub fn put_measures(out: &mut [u8], m: Measures) -> usize
+    requires { ⌜ 256 ≤ length (now out) ⌝ }
+    ensures { λ r. ⌜ Holds (measuredLine m) (now (out .exit)) r ⌝ }
+{
+    let mut at = put_named(out, 0, b"merit ", m.weight);
+    at = put_named(out, at, b" total ", m.total);
+    at = put_named(out, at, b" fish ", m.vertices);
+    at = put_named(out, at, b" groups ", m.sets);
+    at = put_named(out, at, b" pairs ", m.edges);
+    at = put_named(out, at, b" cover ", m.cover);
+    at = put_named(out, at, b" gap ", m.gap);
+    out[at] = 10;
+    at + 1
+}

@@ -1,0 +1,4 @@
+// `solve`, run on the worked example of document 01.
+fn main() {
+    programs::solve();
+}
