@@ -14,10 +14,11 @@ use borrow.Author.Tests.{lt-ltb, le-ltb, ne-eqb}
 use Rattle.integers.specs.Sum.{sum}
 use Rattle.integers.proofs.Sum.{sum-cong, sum-split, sum-mono, sum-const}
 use Rattle.graph.specs.Graph.{some?}
+use Rattle.graph.proofs.Passing.{some-cong}
 use Rattle.dual.specs.Prices.{one}
 use Rattle.bits.specs.Word.{bitOf}
 
--- ---- marks as numbers, and some item
+-- ---- marks as numbers
 
 pub one-le : (b : Bool) → one b ≤ 1
 one-le true = omega arith
@@ -26,10 +27,6 @@ one-le false = omega arith
 pub ones-most : (n : ℕ) (f : ℕ → Bool) → sum n (λ k. one (f k)) ≤ n
 ones-most n f =
     omega (arith, sum-mono n (λ k. one (f k)) (λ k. 1) (λ k l. one-le (f k)), sum-const n 1)
-
-pub some-cong : (n : ℕ) (f g : ℕ → Bool) → ((k : ℕ) → k < n → f k ≡ g k) → some? n f ≡ some? n g
-some-cong zero f g h = refl
-some-cong (suc n) f g h = ap₂ _||_ (some-cong n f g (λ k l. h k (omega arith))) (h n (omega arith))
 
 -- ---- the count of ones
 

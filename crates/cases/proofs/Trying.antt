@@ -2,49 +2,21 @@
 use Prim.Native.Nat.{ℕ, zero, suc, _≤_, _<_}
 use mathlib.Core.Path.{_≡_, refl, sym, ap, _∙_, subst}
 use mathlib.Core.Logic.{_⊎_, inl, inr}
-use mathlib.Core.Bool.{Bool, true, false, not, cond, _&&_, Bool·not-not}
+use mathlib.Core.Bool.{Bool, true, false, cond, _&&_}
 use mathlib.Core.List.{List, [], _∷_, map, List·Memᴰ, List·Memᴰ·head, List·Memᴰ·tail, List·Memᴰ·cases-cons, List·Memᴰ·not-nil, Memᴰ·append-left, Memᴰ·append-right}
 use mathlib.Core.Option.{Option, none, some}
 use native.Mathlib.Omega.{arith}
-use lib.Dec.{T, leb, eqb, leb→le, eqb→eq}
-use borrow.Author.Tests.{le-leb, eq-eqb}
+use lib.Dec.{leb, eqb}
+use borrow.Author.Tests.{leb-true, le-leb, eqb-true, eq-eqb}
 use lib.IntN.{ℤ, pos}
 use lib.ListN.{length}
 use lib.Signed.{leZ, _≤ℤ_, ≤ℤ-refl}
 use Rattle.integers.proofs.Order.{≤ℤ-trans, leZ-true, leZ-false, le-leZ, order}
-use Rattle.graph.specs.Graph.{Graph, vertices, boundAt}
+use Rattle.graph.specs.Graph.{Graph, vertices, boundAt, every}
 use Rattle.graph.specs.Subgraph.{markAt, degree, weightOf, Feasible, Optimal}
-use Rattle.graph.proofs.Passing.{zero-one, some-none, none-some}
-use Rattle.dual.specs.Sets.{every}
+use Rattle.graph.proofs.Passing.{zero-one, every-true, true-every}
+use Rattle.graph.proofs.Ranges.{both, _also_}
 use Rattle.cases.specs.Trying.{subgraphs, isFeasible, larger, bestOf, best}
-
-and-left : (a b : Bool) → a && b ≡ true → a ≡ true
-and-left true b e = refl
-and-left false b e = e
-
-and-right : (a b : Bool) → a && b ≡ true → b ≡ true
-and-right true b e = e
-and-right false b e = zero-one (cc)
-
-pub and-split : (a b : Bool) → a && b ≡ true → (a ≡ true) × (b ≡ true)
-and-split a b e = (and-left a b e, and-right a b e)
-
-and-join : (a b : Bool) → a ≡ true → b ≡ true → a && b ≡ true
-and-join a b p q = ap (λ c. c && b) p ∙ q
-
-not-false : (b : Bool) → not b ≡ false → b ≡ true
-not-false true e = refl
-not-false false e = zero-one (cc)
-
-pub truth : (b : Bool) → b ≡ true → T b
-truth true e = tt
-truth false e = zero-one (cc)
-
-every-yes : (n : ℕ) (f : ℕ → Bool) → every n f ≡ true → (k : ℕ) → k < n → f k ≡ true
-every-yes n f e k l = not-false (f k) (some-none n (λ j. not (f j)) (sym (Bool·not-not _) ∙ ap not e) k l)
-
-yes-every : (n : ℕ) (f : ℕ → Bool) → ((k : ℕ) → k < n → f k ≡ true) → every n f ≡ true
-yes-every n f h = ap not (none-some n (λ j. not (f j)) (λ k l. ap not (h k l)))
 
 -- The test of feasibility means what it should.
 module _ (g : Graph) (bound : List ℤ) (x : List ℕ) where
@@ -59,19 +31,19 @@ module _ (g : Graph) (bound : List ℤ) (x : List ℕ) where
 
   pub feasible-yes : isFeasible g bound x ≡ true → Feasible g bound x
   feasible-yes e =
-      let a = and-split (longEnough && every (g .edges) marksRight) (every (vertices g) withinBounds) e in
-      let b = and-split longEnough (every (g .edges) marksRight) (a .0) in
+      let a = both (longEnough && every (g .edges) marksRight) (every (vertices g) withinBounds) e in
+      let b = both longEnough (every (g .edges) marksRight) (a .0) in
       record {
-        long = eqb→eq (length x) (g .edges) (truth longEnough (b .0));
-        marks = λ k l. leb→le (markAt x k) 1 (truth (marksRight k) (every-yes (g .edges) marksRight (b .1) k l));
-        within = λ v l. leZ-true (pos (degree g x v)) (boundAt bound v) (every-yes (vertices g) withinBounds (a .1) v l);
+        long = eqb-true (length x) (g .edges) (b .0);
+        marks = λ k l. leb-true (markAt x k) 1 (every-true (g .edges) marksRight (b .1) k l);
+        within = λ v l. leZ-true (pos (degree g x v)) (boundAt bound v) (every-true (vertices g) withinBounds (a .1) v l);
       }
 
   pub yes-feasible : Feasible g bound x → isFeasible g bound x ≡ true
   yes-feasible f =
-      and-join (longEnough && every (g .edges) marksRight) (every (vertices g) withinBounds)
-      (and-join longEnough (every (g .edges) marksRight) (eq-eqb (length x) (g .edges) (f .long)) (yes-every (g .edges) marksRight (λ k l. le-leb (markAt x k) 1 (f .marks k l))))
-      (yes-every (vertices g) withinBounds (λ v l. le-leZ (f .within v l)))
+      eq-eqb (length x) (g .edges) (f .long)
+      also true-every (g .edges) marksRight (λ k l. le-leb (markAt x k) 1 (f .marks k l))
+      also true-every (vertices g) withinBounds (λ v l. le-leZ (f .within v l))
 
 -- Every list of m marks is among those tried.
 mapped : (k : ℕ) {x : List ℕ} (xs : List (List ℕ)) → List·Memᴰ x xs → List·Memᴰ (k ∷ x) (map (λ y. k ∷ y) xs)

@@ -7,9 +7,8 @@ use lib.Dec.{leb, eqb}
 use lib.IntN.{ℤ, pos}
 use lib.ListN.{length}
 use lib.Signed.{leZ}
-use Rattle.graph.specs.Graph.{Graph, vertices, boundAt}
+use Rattle.graph.specs.Graph.{Graph, vertices, boundAt, every}
 use Rattle.graph.specs.Subgraph.{markAt, degree, weightOf}
-use Rattle.dual.specs.Sets.{every}
 
 -- Every list of m marks.
 abbrev pub subgraphs : ℕ → List (List ℕ)

@@ -1,5 +1,5 @@
 -- Laws of the table of ends: it starts empty, an edge that is noted keeps it, and a flag is whether an earlier edge has these ends.
-use Prim.Native.Nat.{ℕ, zero, suc, _+_, _<_}
+use Prim.Native.Nat.{ℕ, _+_, _<_}
 use mathlib.Core.Path.{_≡_, refl, sym, ap, ap₂, _∙_}
 use mathlib.Core.Bool.{Bool, true, false, cond, _&&_, _||_, or-true, or-false, and-false}
 use mathlib.Core.List.{List, [], _∷_, _++_}
@@ -9,8 +9,8 @@ use lib.Dec.{eqb}
 use lib.ListN.{length, getD, set, length-set, replicate, length-replicate, getD-replicate, List·getD-append}
 use lib.Seq.{getD-set-same, getD-set-other, getD-at}
 use borrow.Author.Tests.{eq-eqb, ne-eqb}
-use Rattle.graph.specs.Graph.{Graph, rowAt, columnAt, joins, some?, joined}
-use Rattle.graph.proofs.Passing.{some-next}
+use Rattle.graph.specs.Graph.{Graph, rowAt, columnAt, joins, joined}
+use Rattle.graph.proofs.Passing.{some-cong, some-next}
 use Rattle.checks.specs.Checks.{Flagged, flagAt, Seen}
 
 pub flag-within : {r c : ℕ} → Flagged r → Flagged c → flagAt r c < 16384
@@ -19,10 +19,6 @@ flag-within p q = omega arith
 -- Two flags at one place are of the same ends.
 pub flag-ends : (r c s d : ℕ) → Flagged r → Flagged c → Flagged s → Flagged d → flagAt r c ≡ flagAt s d → (r ≡ s) × (c ≡ d)
 flag-ends r c s d p q p′ q′ e = omega arith
-
-pub some-cong : (n : ℕ) (f g : ℕ → Bool) → ((k : ℕ) → k < n → f k ≡ g k) → some? n f ≡ some? n g
-some-cong zero f g h = refl
-some-cong (suc n) f g h = ap₂ _||_ (some-cong n f g (λ k l. h k (omega arith))) (h n (omega arith))
 
 -- An empty table, before the first edge.
 pub seen-none : (flags : List ℕ) (g : Graph) → length flags ≡ 16384 → ((k : ℕ) → k < 16384 → getD flags k 0 ≡ 0) → Seen flags g 0

@@ -6,12 +6,8 @@ use lib.Dec.{eqb}
 use lib.IntN.{ℤ}
 use Rattle.integers.specs.Integer.{up}
 use Rattle.integers.specs.Sum.{sum}
-use Rattle.graph.specs.Graph.{Graph, vertices, firstEnd, secondEnd, boundAt, some?}
+use Rattle.graph.specs.Graph.{Graph, vertices, firstEnd, secondEnd, boundAt, some?, every}
 use Rattle.dual.specs.Prices.{Prices, inside, marked, one}
-
--- Each of the items 0 .. n - 1 has the property.
-abbrev pub every : ℕ → (ℕ → Bool) → Bool
-every n has = not (some? n (λ k. not (has k)))
 
 -- Bits above n or m are 0.
 abbrev pub nothingAbove : Graph → Prices → ℕ → Bool

@@ -2,7 +2,7 @@
 use Prim.Native.Nat.{ℕ, _+_, _*_, _-_, _≤_, _<_}
 use mathlib.Core.Path.{_≡_, refl, sym, ap, _∙_, subst}
 use mathlib.Core.Logic.{_≢_}
-use mathlib.Core.Bool.{Bool, true, not, _||_, true≢false}
+use mathlib.Core.Bool.{true, not, _||_, true≢false}
 use mathlib.Core.List.{List, [], _∷_, _++_}
 use native.Mathlib.Omega.{arith}
 use native.Mathlib.Decide.{decLt}
@@ -11,29 +11,26 @@ use lib.IntN.{ℤ, pos, negsuc}
 use lib.ListN.{length, getD, length-append, List·getD-append}
 use lib.Seq.{getD-append-add}
 use lib.Signed.{_≤ℤ_}
-use borrow.Author.Tests.{eqb-true, leb-true, not-true, not-false, le-leb, lt-ltb, eq-eqb}
+use borrow.Author.Tests.{eqb-true, leb-true, le-leb, lt-ltb, eq-eqb}
 use Rattle.integers.proofs.Order.{leZ-true, le-leZ, between-true, le-between}
 use Rattle.graph.specs.declared.Kind.{Kind}
 use Rattle.graph.specs.declared.Kind.the-variants.{Bipartite, General}
 use Rattle.graph.specs.declared.Fault.the-variants.{LentLength}
 use Rattle.graph.specs.Refusal.{yields, once}
-use Rattle.graph.specs.Graph.{Graph, some?, vertices, columnVertex, rowAt, columnAt, weightAt, firstEnd, secondEnd, boundAt, upTo, sizesInRange, priceInRange}
+use Rattle.graph.specs.Graph.{Graph, vertices, columnVertex, rowAt, columnAt, weightAt, firstEnd, secondEnd, boundAt, upTo, sizesInRange, priceInRange}
 use Rattle.graph.specs.Subgraph.{Feasible, markAt, degree}
 use Rattle.graph.specs.Tests.{graphLengths, graphTests, boundTest, kindTest, isBipartite, markTest, degreeTest}
-use Rattle.graph.proofs.Passing.{some-none, Passes, passes, pass, passes-split, passes-join}
+use Rattle.graph.proofs.Passing.{every-true, Passes, passes, pass, passes-split, passes-join}
 use Rattle.graph.proofs.Ranges.{both, _also_, held, UpTo, up-to-true, EndsHold, sizes-hold, ends-hold}
 use Rattle.dual.specs.declared.Measures.{Measures}
 use Rattle.dual.specs.Prices.{Prices, vertexPrice, edgePrice, setPrice, allPrices, marked}
-use Rattle.dual.specs.Sets.{every, nothingAbove, hasVertex, endsInside, oneEndInside, isOdd, keepsRules}
+use Rattle.dual.specs.Sets.{nothingAbove, hasVertex, endsInside, oneEndInside, isOdd, keepsRules}
 use Rattle.dual.specs.Gap.{coverOf}
 use Rattle.dual.specs.Measure.{measure, measures, measureLengths, measureTests, priceTest, setTest, coverTest}
 use Rattle.dual.specs.Solve.{Lent, solve, solveLengths}
 use Rattle.duality.specs.Conditions.{Ends, DualFeasible}
 
 -- ---- odd sets
-
-pub every-true : (n : ℕ) (f : ℕ → Bool) → every n f ≡ true → (k : ℕ) → k < n → f k ≡ true
-every-true n f e k l = not-false (f k) (some-none n (λ j. not (f j)) (not-true (some? n (λ j. not (f j))) e) k l)
 
 -- A marked edge has just one end inside.
 pub one-end : (g : Graph) (bound : List ℤ) (P : Prices) (s : ℕ) → keepsRules g bound P s ≡ true → (e : ℕ) → e < g .edges → marked P s e ≡ true → endsInside g P s e ≡ 1

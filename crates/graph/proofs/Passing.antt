@@ -1,15 +1,16 @@
 -- Laws of the lowest item that breaks a test, of some item with a property, and of tests in their order.
 use Prim.Native.Nat.{ℕ, zero, suc, _+_, _<_}
 use mathlib.Core.Path.{_≡_, refl, sym, ap, ap₂, _∙_}
-use mathlib.Core.Bool.{Bool, true, false, cond, _||_, or-true}
+use mathlib.Core.Bool.{Bool, true, false, cond, _||_, or-true, not}
 use mathlib.Core.List.{List, [], _∷_, _++_}
 use mathlib.Core.Option.{Option, none, some}
 use native.Mathlib.Omega.{arith}
 use native.Mathlib.Numerals.{add-one}
 use native.Mathlib.Decide.{ℕ-discrete}
+use borrow.Author.Tests.{not-true, not-false}
 use Rattle.graph.specs.declared.Fault.{Fault}
 use Rattle.graph.specs.Refusal.{Outcome, yields, refuses, Test, once, orElse, lowest, found, passing}
-use Rattle.graph.specs.Graph.{some?}
+use Rattle.graph.specs.Graph.{some?, every}
 
 -- What cannot be.
 pub zero-one : {A : Type 0} → _≡_ {A = ℕ} 0 1 → A
@@ -95,6 +96,17 @@ yes-some (suc n) f e = go (some? n f) (f n) refl refl e (yes-some n f)
     go true b p q h ih = let w = ih p in (w .0, omega (arith, w .1), w .2)
     go false true p q h ih = (n, omega arith, q)
     go false false p q h ih = zero-one (cc)
+
+pub some-cong : (n : ℕ) (f g : ℕ → Bool) → ((k : ℕ) → k < n → f k ≡ g k) → some? n f ≡ some? n g
+some-cong zero f g h = refl
+some-cong (suc n) f g h = ap₂ _||_ (some-cong n f g (λ k l. h k (omega arith))) (h n (omega arith))
+
+-- Each has it.
+pub every-true : (n : ℕ) (f : ℕ → Bool) → every n f ≡ true → (k : ℕ) → k < n → f k ≡ true
+every-true n f e k l = not-false (f k) (some-none n (λ j. not (f j)) (not-true (some? n (λ j. not (f j))) e) k l)
+
+pub true-every : (n : ℕ) (f : ℕ → Bool) → ((k : ℕ) → k < n → f k ≡ true) → every n f ≡ true
+true-every n f h = ap not (none-some n (λ j. not (f j)) (λ k l. ap not (h k l)))
 
 pub some-next : (n : ℕ) (f : ℕ → Bool) → some? (n + 1) f ≡ some? n f || f n
 some-next n f = ap (λ k. some? k f) (add-one n)

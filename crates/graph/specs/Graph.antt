@@ -1,6 +1,6 @@
 -- The graph (sheet): its vertices (fish), edges (pairs) and weights (merits), and the bounds (limits) of its vertices.
 use Prim.Native.Nat.{ℕ, zero, suc, _+_, _-_}
-use mathlib.Core.Bool.{Bool, false, _&&_, _||_}
+use mathlib.Core.Bool.{Bool, false, not, _&&_, _||_}
 use mathlib.Core.List.{List}
 use lib.Dec.{leb, ltb, eqb}
 use lib.IntN.{ℤ, pos, negsuc}
@@ -76,6 +76,10 @@ joins g r c e = eqb (rowAt g e) r && eqb (columnAt g e) c
 abbrev pub some? : ℕ → (ℕ → Bool) → Bool
 some? zero has = false
 some? (suc n) has = some? n has || has n
+
+-- Each of them has it.
+abbrev pub every : ℕ → (ℕ → Bool) → Bool
+every n has = not (some? n (λ k. not (has k)))
 
 -- One of the first n edges has row r and column c.
 abbrev pub joined : Graph → ℕ → ℕ → ℕ → Bool

@@ -1,7 +1,7 @@
 -- What the graph reader answers and leaves, from what its phases answer.
 use Prim.Native.Nat.{ℕ}
 use mathlib.Core.Path.{_≡_, refl, sym, ap, _∙_, subst}
-use mathlib.Core.Bool.{Bool, true, false, _&&_}
+use mathlib.Core.Bool.{_&&_}
 use mathlib.Core.List.{List}
 use lib.Dec.{eqb}
 use lib.IntN.{ℤ, pos}
@@ -12,7 +12,8 @@ use Rattle.graph.specs.declared.Fault.the-variants.{LentLength}
 use Rattle.graph.specs.declared.Refusal.{Refusal}
 use Rattle.graph.specs.Refusal.{Outcome, yields, refuses, reported, output, passing}
 use Rattle.graph.specs.Graph.{Graph}
-use Rattle.graph.proofs.Passing.{once-yields, zero-one}
+use Rattle.graph.proofs.Passing.{once-yields}
+use Rattle.graph.proofs.Ranges.{both}
 use Rattle.layout.specs.declared.GraphAnswer.{GraphAnswer}
 use Rattle.layout.specs.declared.GraphAnswer.the-variants as GraphAnswer
 use Rattle.layout.specs.Lines.{readText}
@@ -90,10 +91,6 @@ refusal-leaves r c w s f is e C = record {
   weights = C .weights ∙ left-refused w (pos 0) (λ (g : Graph). g .weight) headOf (readGraph r c w s) (f .fault) (f .place) (sym is ∙ e);
 }
 
-and-both : (a b : Bool) → a && b ≡ true → (a ≡ true) × (b ≡ true)
-and-both true b e = (refl, e)
-and-both false b e = zero-one (cc)
-
 -- The lengths that the tests let pass.
 pub record Right (r c w : ℕ) : Type 0 where
   pub rows : r ≡ 1024
@@ -108,8 +105,8 @@ module _ (r c w : ℕ) (s : List ℕ) {a : Check} (says : checkSays a ≡ passin
   module _ (is : a ≡ Check.Passed) where
     pub lent-right : Right r c w
     lent-right =
-        let p = and-both (eqb r 1024 && eqb c 1024) (eqb w 1024) (once-yields LentLength (lent r c w s) (fromText r c w s) (yields tt) tt (sym says ∙ ap checkSays is) .0) in
-        let q = and-both (eqb r 1024) (eqb c 1024) (p .0) in
+        let p = both (eqb r 1024 && eqb c 1024) (eqb w 1024) (once-yields LentLength (lent r c w s) (fromText r c w s) (yields tt) tt (sym says ∙ ap checkSays is) .0) in
+        let q = both (eqb r 1024) (eqb c 1024) (p .0) in
         record { rows = eqb-true r 1024 (q .0); columns = eqb-true c 1024 (q .1); weights = eqb-true w 1024 (p .1) }
 
     pub lent-cleared : {row column : List ℕ} {weight : List ℤ} → Cleared r c w row column weight → Cleared 1024 1024 1024 row column weight

@@ -1,4 +1,4 @@
-// `mark`, run on the worked example of document 01.
+// The program `mark`. Its stored run is the worked example of document 01.
 fn main() {
     programs::mark();
 }

@@ -1,6 +1,6 @@
 -- Laws of a number's digits: how many there are, and that they read as the number.
 use mathlib.Core.Path.{_≡_, refl, sym, ap, _∙_}
-use mathlib.Core.Bool.{Bool, true, false, cond}
+use mathlib.Core.Bool.{Bool, true, false}
 use mathlib.Core.List.{List, [], _∷_, _++_}
 use mathlib.Core.Option.{Option, none, some}
 use Prim.Native.Nat.{ℕ, zero, suc, _+_, _*_, _-_, _/_, _%_, _^_, _≤_, _<_}
@@ -10,6 +10,7 @@ use lib.Dec.{ltb}
 use borrow.Author.Tests.{lt-ltb, le-ltb, ltb-true, ltb-false, le-leb}
 use lib.ListN.{length, length-append}
 use Rattle.layout.specs.Text.{digit, digitsAfter, natural, digits, decimal}
+use Rattle.layout.proofs.Digits.{after-nil, after-yes, after-no}
 use Rattle.graph.proofs.Passing.{zero-one}
 
 pub digits-short : (k n : ℕ) → n < 10 → digits (suc k) n ≡ (48 + n) ∷ []
@@ -67,18 +68,6 @@ decimal-some n = go (ltb n 10) refl
 
 -- ---- reading them
 
-after-nil : (n : ℕ) → digitsAfter n [] ≡ some n
-unfolding digitsAfter
-after-nil n = refl
-
-after-yes : (n d : ℕ) (ds : List ℕ) → digit d ≡ true → digitsAfter n (d ∷ ds) ≡ digitsAfter (n * 10 + (d - 48)) ds
-unfolding digitsAfter
-after-yes n d ds h = ap (λ (b : Bool). cond b (digitsAfter (n * 10 + (d - 48)) ds) none) h
-
-after-no : (n d : ℕ) (ds : List ℕ) → digit d ≡ false → digitsAfter n (d ∷ ds) ≡ none
-unfolding digitsAfter
-after-no n d ds h = ap (λ (b : Bool). cond b (digitsAfter (n * 10 + (d - 48)) ds) none) h
-
 digit-yes : (d : ℕ) → d < 10 → digit (48 + d) ≡ true
 digit-yes d h = simp (le-leb 48 (48 + d) (omega arith), le-leb (48 + d) 57 (omega arith))
 
@@ -99,7 +88,7 @@ after-snoc (x ∷ ds) a m d h k = go (digit x) refl (λ e. after-snoc ds (a * 10
         → (digitsAfter (a * 10 + (x - 48)) ds ≡ some m → digitsAfter (a * 10 + (x - 48)) (ds ++ ((48 + d) ∷ [])) ≡ some (m * 10 + d))
         → digitsAfter a (x ∷ (ds ++ ((48 + d) ∷ []))) ≡ some (m * 10 + d)
     go true is ih = after-yes a x (ds ++ ((48 + d) ∷ [])) is ∙ ih (sym (after-yes a x ds is) ∙ h)
-    go false is ih = let z : _≡_ {A = Option ℕ} none (some m) = sym (after-no a x ds is) ∙ h in (zero-one (cc))
+    go false is ih = let z : _≡_ {A = Option ℕ} none (some m) = sym (after-no a x ds is) ∙ h in zero-one (cc)
 
 digits-read : (k n : ℕ) → n < 10 ^ k → digitsAfter 0 (digits k n) ≡ some n
 digits-read zero n h = let e : n ≡ 0 = zero-of n h in ap (digitsAfter 0) (digits-none n) ∙ after-nil 0 ∙ ap some (sym e)

@@ -63,13 +63,13 @@ AllWords (w ∷ ws) = (1 ≤ length w) × Free blank w × AllWords ws
 
 non-empty : (w : List ℕ) (ws : List (List ℕ)) → 1 ≤ length w → nonEmpty (w ∷ ws) ≡ w ∷ nonEmpty ws
 unfolding nonEmpty
-non-empty [] ws h = (zero-one (omega arith))
+non-empty [] ws h = zero-one (omega arith)
 non-empty (x ∷ w) ws h = refl
 
 pub words-spaced : (ws : List (List ℕ)) → AllWords ws → words (spaced ws) ≡ ws
 unfolding words spaced pieces nonEmpty
 words-spaced [] f = refl
-words-spaced ([] ∷ []) f = (zero-one (omega (arith, f .0)))
+words-spaced ([] ∷ []) f = zero-one (omega (arith, f .0))
 words-spaced ((x ∷ w) ∷ []) f = ap nonEmpty (pieces-whole blank x w (f .1))
 words-spaced (w ∷ v ∷ ws) f =
     ap nonEmpty (pieces-cut blank w 32 (spaced (v ∷ ws)) (f .1) refl) ∙ non-empty w (pieces blank (spaced (v ∷ ws))) (f .0)
@@ -117,5 +117,5 @@ free-yes p [] h = tt
 free-yes p (x ∷ l) h = go (p x) refl (free-yes p l) h
   where
     go : (b : Bool) → p x ≡ b → (free? p l ≡ true → Free p l) → cond b false (free? p l) ≡ true → Free p (x ∷ l)
-    go true is f h = (zero-one (cc))
+    go true is f h = zero-one (cc)
     go false is f h = (is, f h)

@@ -7,10 +7,10 @@ use native.Mathlib.Omega.{arith}
 use native.Mathlib.Nat.{one-mul, zero-mul}
 use lib.Dec.{eqb}
 use lib.IntN.{ℤ}
-use Rattle.graph.specs.Graph.{Graph, vertices, firstEnd, secondEnd, some?}
+use Rattle.graph.specs.Graph.{Graph, vertices, firstEnd, secondEnd, some?, every}
 use Rattle.dual.specs.Prices.{Prices, bit, inside, marked, one}
-use Rattle.dual.specs.Sets.{every, nothingAbove, hasVertex, endsInside, oneEndInside, load, isOdd, keepsRules, covers}
-use Rattle.bits.proofs.Word.{some-cong}
+use Rattle.dual.specs.Sets.{nothingAbove, hasVertex, endsInside, oneEndInside, load, isOdd, keepsRules, covers}
+use Rattle.graph.proofs.Passing.{some-cong}
 
 -- Item i of an odd set whose words start at from stands at bit i mod 64 of word i / 64 after it.
 pub mark-place : (ws : List ℕ) (from a i : ℕ) → 64 * from ≡ a → bit ws (64 * (from + i / 64) + i % 64) ≡ bit ws (a + i)

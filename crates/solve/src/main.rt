@@ -1,4 +1,4 @@
-// `solve`, run on the worked example of document 01.
+// The program `solve`. Its stored run is the worked example of document 01.
 fn main() {
     programs::solve();
 }

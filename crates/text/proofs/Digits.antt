@@ -1,7 +1,7 @@
 -- The number that digits make, for the loop that reads it.
-use mathlib.Core.Path.{_≡_, refl, ap, _∙_}
-use mathlib.Core.Bool.{Bool, true, false, cond, and-false}
-use mathlib.Core.List.{List, [], _∷_}
+use mathlib.Core.Path.{_≡_, refl, _∙_}
+use mathlib.Core.Bool.{true, false, and-false}
+use mathlib.Core.List.{List}
 use mathlib.Core.Option.{none, some}
 use Prim.Native.Nat.{ℕ, suc, _+_, _*_, _-_, _^_, _≤_, _<_}
 use native.Mathlib.Nat.{pow-suc, pow-le-pow-right}
@@ -12,6 +12,7 @@ use borrow.Author.Tests.{le-leb, lt-leb}
 use lib.ListN.{length, drop, getD, drop-of-length-le}
 use lib.Seq.{drop-cons}
 use Rattle.layout.specs.Text.{digit, digitsAfter, natural}
+use Rattle.layout.proofs.Digits.{after-nil, after-yes, after-no}
 
 pub digit-yes : (d : ℕ) → 48 ≤ d → d ≤ 57 → digit d ≡ true
 digit-yes d h k = simp (le-leb 48 d h, le-leb d 57 k)
@@ -21,18 +22,6 @@ digit-low d h = simp (lt-leb 48 d h)
 
 digit-high : (d : ℕ) → 57 < d → digit d ≡ false
 digit-high d h = simp (lt-leb d 57 h, and-false)
-
-pub after-nil : (n : ℕ) → digitsAfter n [] ≡ some n
-unfolding digitsAfter
-after-nil n = refl
-
-pub after-yes : (n d : ℕ) (ds : List ℕ) → digit d ≡ true → digitsAfter n (d ∷ ds) ≡ digitsAfter (n * 10 + (d - 48)) ds
-unfolding digitsAfter
-after-yes n d ds h = ap (λ (b : Bool). cond b (digitsAfter (n * 10 + (d - 48)) ds) none) h
-
-pub after-no : (n d : ℕ) (ds : List ℕ) → digit d ≡ false → digitsAfter n (d ∷ ds) ≡ none
-unfolding digitsAfter
-after-no n d ds h = ap (λ (b : Bool). cond b (digitsAfter (n * 10 + (d - 48)) ds) none) h
 
 pub natural-in : (w : List ℕ) → 1 ≤ length w → length w ≤ 9 → natural w ≡ digitsAfter 0 w
 unfolding natural

@@ -6,16 +6,17 @@ use Prim.Native.Nat.{ℕ, _≤_}
 use native.Mathlib.Omega.{arith}
 use lib.Dec.{eqb}
 use lib.ListN.{length, drop, getD}
+use Rattle.graph.proofs.Passing.{zero-one}
 use Rattle.layout.specs.Text.{bytes, blank, words, noWords, commentLine, same, lower, sameFolded, headerWords, begins, header}
 use Rattle.text.specs.Cursor.{firstWord, pastWord, within, follow, Taken}
 use Rattle.text.specs.declared.Key.{Key}
 use Rattle.text.specs.declared.Key.the-variants as Key
-use Rattle.text.proofs.Pieces.{Front, nothing, word, front, zero-one}
+use Rattle.text.proofs.Pieces.{Front, nothing, word, front}
 
 -- The first byte of a line.
 pub comment-empty : (l : List ℕ) → length l ≡ 0 → commentLine l ≡ false
 comment-empty [] h = refl
-comment-empty (x ∷ l) h = absurd (zero-one (omega arith))
+comment-empty (x ∷ l) h = zero-one (omega arith)
 
 pub comment-at : (l : List ℕ) → (length l ≡ 0 → ⊥) → eqb (getD l 0 0) 37 ≡ commentLine l
 comment-at [] ne = absurd (ne refl)
@@ -23,7 +24,7 @@ comment-at (x ∷ l) ne = refl
 
 pub begins-empty : (l : List ℕ) → length l ≡ 0 → begins l ≡ false
 begins-empty [] h = refl
-begins-empty (x ∷ l) h = absurd (zero-one (omega arith))
+begins-empty (x ∷ l) h = zero-one (omega arith)
 
 pub begins-at : (l : List ℕ) → (length l ≡ 0 → ⊥) → (b : Bool) → b ≡ blank (getD l 0 0) → not b ≡ begins l
 begins-at [] ne b h = absurd (ne refl)
@@ -56,7 +57,7 @@ module _ (l k : List ℕ) (from : Key) (at : ℕ) (is-at : from ≡ Key.After at
 
   missing : length w ≡ 0 → (ks : List (List ℕ)) → Front l at → sameFolded (words (drop at l)) (k ∷ ks) ≡ false
   missing h ks (nothing is) = ap (λ (ws : List (List ℕ)). sameFolded ws (k ∷ ks)) is ∙ folded-nil k ks
-  missing h ks (word x v is) = let q : w ≡ x ∷ v = is-w ∙ ap firstWord is in absurd (zero-one (omega (arith, ap length q)))
+  missing h ks (word x v is) = let q : w ≡ x ∷ v = is-w ∙ ap firstWord is in zero-one (omega (arith, ap length q))
 
   found : (length w ≡ 0 → ⊥) → same (map lower w) k ≡ true → (ks : List (List ℕ)) → Front l at → sameFolded (words (drop at l)) (k ∷ ks) ≡ sameFolded (words (drop (pastWord l at) l)) ks
   found ne h ks (nothing is) = absurd (ne (ap length (is-w ∙ ap firstWord is)))

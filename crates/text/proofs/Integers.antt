@@ -14,21 +14,18 @@ use lib.IntN.{ℤ, pos, negℤ, _-ℤ_, +ℤ-idl}
 use mir.Syntax.{w32}
 use mir.Val.{SFits, toZ, ofZ}
 use mir.Facts.{toZ-pos, toZ-ofZ}
+use Rattle.graph.proofs.Passing.{zero-one}
+use Rattle.graph.proofs.Ranges.{both}
 use Rattle.layout.specs.Text.{digit, digitsAfter, natural, integer, all3, oneWord, threeWords}
 use Rattle.text.specs.Cursor.{Small, naturalSays}
 use Rattle.text.specs.declared.Natural.{Natural}
 use Rattle.text.specs.declared.Natural.the-variants as Natural
-use Rattle.text.proofs.Pieces.{zero-one}
 
 absent : {A : Type 0} {B : Type 0} (a : A) → none ≡ some a → B
-absent a h = absurd (zero-one (cc))
-
-and-right : (a b : Bool) → (a && b) ≡ true → b ≡ true
-and-right true b h = h
-and-right false b h = absurd (zero-one (cc))
+absent a h = zero-one (cc)
 
 digit-le : (d : ℕ) → digit d ≡ true → d ≤ 57
-digit-le d h = leb-true d 57 (and-right (leb 48 d) (leb d 57) h)
+digit-le d h = leb-true d 57 (both (leb 48 d) (leb d 57) h .1)
 
 after-small : (ds : List ℕ) (n k m : ℕ) → n < 10 ^ k → digitsAfter n ds ≡ some m → m < 10 ^ (k + length ds)
 unfolding digitsAfter
@@ -46,7 +43,7 @@ natural-small w n e = go (leb 1 (length w) && leb (length w) 9) refl e
   where
     go : (b : Bool) → (leb 1 (length w) && leb (length w) 9) ≡ b → cond b (digitsAfter 0 w) none ≡ some n → n < 10 ^ 9
     go true is e =
-        let le : length w ≤ 9 = leb-true (length w) 9 (and-right (leb 1 (length w)) (leb (length w) 9) is) in
+        let le : length w ≤ 9 = leb-true (length w) 9 (both (leb 1 (length w)) (leb (length w) 9) is .1) in
         let le′ : 0 + length w ≤ 9 = omega arith in
         lt-of-lt-of-le (after-small w 0 0 n (lit< tt) e) (pow-le-pow-right (lit< tt) le′)
     go false is e = absent n e
@@ -62,7 +59,7 @@ small w = go (natural w) refl
 pub integer-empty : (w : List ℕ) → length w < 1 → integer w ≡ none
 unfolding integer
 integer-empty [] h = refl
-integer-empty (x ∷ w) h = absurd (zero-one (omega arith))
+integer-empty (x ∷ w) h = zero-one (omega arith)
 
 rest-is : (x : ℕ) (w : List ℕ) → take (length (x ∷ w) - 1) w ≡ w
 rest-is x w = take-all (length (x ∷ w) - 1) w (omega arith)

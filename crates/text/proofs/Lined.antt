@@ -7,13 +7,14 @@ use native.Mathlib.Omega.{arith}
 use lib.Dec.{ltb}
 use borrow.Author.Tests.{ltb-true, ltb-false}
 use lib.ListN.{length, take, drop, length-drop}
+use Rattle.graph.proofs.Passing.{zero-one}
 use Rattle.layout.specs.Text.{lines}
 use Rattle.text.specs.Cursor.{inLine, past, nextLine}
 use Rattle.text.specs.declared.Cursor.{Cursor}
 use Rattle.text.specs.declared.Line.{Line}
 use Rattle.text.specs.declared.Line.the-variants as Line
 use Rattle.text.proofs.Scans.{run-le}
-use Rattle.text.proofs.Pieces.{lines-some, zero-one}
+use Rattle.text.proofs.Pieces.{lines-some}
 
 -- A line from a to e stands at the cursor c, and d is the cursor after it.
 pub record Lined (s : List ℕ) (c : Cursor) (a e : ℕ) (d : Cursor) : Type 0 where
@@ -36,14 +37,14 @@ module _ (s : List ℕ) (c : Cursor) (r : Line) (is : r ≡ nextLine s c) where
   done h = go (ltb (c .at) (length s)) refl is
     where
       go : (b : Bool) → ltb (c .at) (length s) ≡ b → r ≡ cond b (Line.Part (c .at) end after) Line.Done → length s ≤ c .at
-      go true e q = absurd (zero-one (cc))
+      go true e q = zero-one (cc)
       go false e q = ltb-false (c .at) (length s) e
 
   pub lined : (a e : ℕ) (d : Cursor) → r ≡ Line.Part a e d → Lined s c a e d
   lined a e d h = go (ltb (c .at) (length s)) refl is
     where
       go : (b : Bool) → ltb (c .at) (length s) ≡ b → r ≡ cond b (Line.Part (c .at) end after) Line.Done → Lined s c a e d
-      go false t q = absurd (zero-one (cc))
+      go false t q = zero-one (cc)
       go true t q =
           let lt : c .at < length s = ltb-true (c .at) (length s) t in
           let qa : a ≡ c .at = cc in

@@ -10,9 +10,6 @@ use lib.Seq.{drop-cons, drop-drop}
 use Rattle.layout.specs.Text.{blank, newline, pieces, onFirst, nonEmpty, lines, words, noWords}
 use Rattle.text.specs.Cursor.{run, inLine, inWord, past, firstWord, pastWord}
 
-pub zero-one : _≡_ {A = ℕ} 0 1 → ⊥
-zero-one z = omega arith
-
 -- The first piece goes up to the first byte that ends one, and the others are those of what follows that byte.
 pieces-step : (p : ℕ → Bool) (x : ℕ) (xs : List ℕ) → pieces p (x ∷ xs) ≡ take (run (λ y. not (p y)) (x ∷ xs)) (x ∷ xs) ∷ pieces p (drop (suc (run (λ y. not (p y)) (x ∷ xs))) (x ∷ xs))
 unfolding pieces onFirst run

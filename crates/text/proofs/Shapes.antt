@@ -6,11 +6,12 @@ use mathlib.Core.Option.{Option, none, some, Option·map}
 use Prim.Native.Nat.{ℕ, _≤_}
 use native.Mathlib.Omega.{arith}
 use lib.ListN.{length, drop, length-drop}
+use Rattle.graph.proofs.Passing.{zero-one}
 use Rattle.layout.specs.Text.{blank, words, noWords, natural, integer, both, all3, oneWord, twoWords, threeWords}
 use Rattle.text.specs.Cursor.{inWord, past, pastWord, firstWord, next}
 use Rattle.text.specs.declared.Cursor.{Cursor}
 use Rattle.text.proofs.Scans.{run-le}
-use Rattle.text.proofs.Pieces.{Front, nothing, word, front, zero-one}
+use Rattle.text.proofs.Pieces.{Front, nothing, word, front}
 
 pub natural-nil : natural [] ≡ none
 unfolding natural
@@ -51,13 +52,13 @@ module _ {A : Type 0} (f : List ℕ → Option A) (l : List ℕ) (c : Cursor) wh
     where
       go : (o : Option A) → f (firstWord (words (drop (c .at) l))) ≡ o → f (firstWord (words (drop (c .at) l))) ≡ none
       go none e = e
-      go (some a) e = let q : _≡_ {A = Option (A × Cursor)} none (some (a, after)) = h ∙ next-of (firstWord (words (drop (c .at) l))) refl (some a) e in absurd (zero-one (cc))
+      go (some a) e = let q : _≡_ {A = Option (A × Cursor)} none (some (a, after)) = h ∙ next-of (firstWord (words (drop (c .at) l))) refl (some a) e in zero-one (cc)
 
   pub took : f [] ≡ none → c .at ≤ length l → (a : A) (d : Cursor) → some (a, d) ≡ next f l c → Took f l (c .at) a (d .at)
   took empty le a d h = by (f (firstWord (words (drop (c .at) l)))) refl
     where
       at-word : (d .at ≡ pastWord l (c .at)) → f (firstWord (words (drop (c .at) l))) ≡ some a → Front l (c .at) → Took f l (c .at) a (d .at)
-      at-word q e (nothing is) = let z : none ≡ some a = sym empty ∙ ap (λ (ws : List (List ℕ)). f (firstWord ws)) (sym is) ∙ e in absurd (zero-one (cc))
+      at-word q e (nothing is) = let z : none ≡ some a = sym empty ∙ ap (λ (ws : List (List ℕ)). f (firstWord ws)) (sym is) ∙ e in zero-one (cc)
       at-word q e (word x w is) = record {
         read = x ∷ w;
         ahead = is ∙ ap (λ (j : ℕ). (x ∷ w) ∷ words (drop j l)) (sym q);
@@ -66,7 +67,7 @@ module _ {A : Type 0} (f : List ℕ → Option A) (l : List ℕ) (c : Cursor) wh
       }
 
       by : (o : Option A) → f (firstWord (words (drop (c .at) l))) ≡ o → Took f l (c .at) a (d .at)
-      by none e = let q : _≡_ {A = Option (A × Cursor)} (some (a, d)) none = h ∙ next-of (firstWord (words (drop (c .at) l))) refl none e in absurd (zero-one (cc))
+      by none e = let q : _≡_ {A = Option (A × Cursor)} (some (a, d)) none = h ∙ next-of (firstWord (words (drop (c .at) l))) refl none e in zero-one (cc)
       by (some b) e =
           let q : _≡_ {A = Option (A × Cursor)} (some (a, d)) (some (b, after)) = h ∙ next-of (firstWord (words (drop (c .at) l))) refl (some b) e in
           let p : _≡_ {A = A × Cursor} (a, d) (b, after) = cc in
