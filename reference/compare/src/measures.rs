@@ -4,7 +4,20 @@ use crate::graphs::{bounds, cover, feasible, length, prices, Lent};
 use crate::guard::Guarded;
 use crate::proved;
 use crate::tally::Tally;
-use reference::{feasible_subgraphs, largest_weight, Graph, Random};
+use reference::{feasible_subgraphs, largest_weight, Graph, Measures, Random, Refusal};
+
+/// A measuring call, the proved one or the separately written one.
+pub type Measuring = fn(
+    &Graph,
+    &[i32],
+    &[u8],
+    &[i32],
+    &[i32],
+    u32,
+    &[i32],
+    &[u64],
+    &[u64],
+) -> Result<Measures, Refusal>;
 
 /// Everything that is lent to a measuring.
 #[derive(Clone, Debug)]

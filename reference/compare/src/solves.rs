@@ -2,6 +2,7 @@
 
 use crate::graphs::{length, Lent};
 use crate::guard::Guarded;
+use crate::measures::Measuring;
 use crate::proved;
 use crate::tally::Tally;
 use reference::{largest_weight, Graph, Kind, Random, Refusal};
@@ -83,34 +84,15 @@ fn compare_one(random: &mut Random, lent: &Lent, bound: &[i32], tally: &mut Tall
         Ok(()) if agreed => {
             let weight = |x: &[u8]| reference::brute::weight_of(&g, x);
             let in_range = |prices: &[i32]| prices.iter().all(|p| (0..=1_000_000).contains(p));
-            let ours = reference::measure(
-                &g,
-                bound,
-                chosen.lend(),
-                vertex.lend(),
-                edge.lend(),
-                0,
-                &[],
-                &[],
-                &[],
-            );
-            let theirs = proved::measure(
-                &g,
-                bound,
-                chosen.lend(),
-                vertex.lend(),
-                edge.lend(),
-                0,
-                &[],
-                &[],
-                &[],
-            );
-            agreed = weight(chosen.lend()) == weight(&other.0)
-                && in_range(vertex.lend())
-                && in_range(edge.lend())
+            let (chosen, vertex, edge) = (chosen.lend(), vertex.lend(), edge.lend());
+            let [ours, theirs] = [reference::measure, proved::measure as Measuring]
+                .map(|measure| measure(&g, bound, chosen, vertex, edge, 0, &[], &[], &[]));
+            agreed = weight(chosen) == weight(&other.0)
+                && in_range(vertex)
+                && in_range(edge)
                 && ours == theirs
                 && ours.is_ok_and(|numbers| numbers.gap == 0)
-                && (!small || weight(chosen.lend()) == largest_weight(&g, bound));
+                && (!small || weight(chosen) == largest_weight(&g, bound));
         }
         Ok(()) => {}
         Err(_) => {

@@ -1,6 +1,7 @@
 //! Times the proved calls beside the separately written program, in one run. Buffers are cleared before each call.
 
 use compare::graphs::Lent;
+use compare::measures::Measuring;
 use compare::proved;
 use reference::{Kind, Random};
 use std::hint::black_box;
@@ -77,43 +78,20 @@ fn measures() {
         for s in 0..sets {
             set_vertices[2 * s] = 1;
         }
-        let run = |call: &mut dyn FnMut(&Lent, &[i32], &[u8])| {
+        let count = sets as u32;
+        let [ours, theirs] = [proved::measure, reference::measure as Measuring].map(|measure| {
             median(&inputs, |(lent, bound)| {
                 let mut bound = bound.clone();
                 bound[0] = 1;
-                call(lent, &bound, &vec![0u8; lent.row.len()]);
+                let (graph, m) = (lent.lend(), lent.row.len());
+                let chosen = vec![0u8; m];
+                let (vertices, edges) = (&set_vertices, &set_edges);
+                let edge = &edge[..m];
+                let numbers = measure(
+                    &graph, &bound, &chosen, &vertex, edge, count, &price, vertices, edges,
+                );
+                black_box(numbers).unwrap();
             })
-        };
-        let sets = sets as u32;
-        let ours = run(&mut |lent, bound, chosen| {
-            let m = lent.row.len();
-            black_box(proved::measure(
-                &lent.lend(),
-                bound,
-                chosen,
-                &vertex,
-                &edge[..m],
-                sets,
-                &price,
-                &set_vertices,
-                &set_edges,
-            ))
-            .unwrap();
-        });
-        let theirs = run(&mut |lent, bound, chosen| {
-            let m = lent.row.len();
-            black_box(reference::measure(
-                &lent.lend(),
-                bound,
-                chosen,
-                &vertex,
-                &edge[..m],
-                sets,
-                &price,
-                &set_vertices,
-                &set_edges,
-            ))
-            .unwrap();
         });
         show(
             &format!("measure, {edges} edges, {sets} sets"),
