@@ -12,7 +12,8 @@ use Rattle.graph.specs.Subgraph.{markAt, endsAt, degree}
 module _ (g : Graph) (x : List ℕ) (e h : ℕ) (l : e < g .edges) (k : e < length x) where
   pub degree-set : (m : ℕ) → degree g (set x e m) h + markAt x e * endsAt g h e ≡ degree g x h + m * endsAt g h e
   degree-set m =
-      sum-change (g .edges) e (λ d. markAt (set x e m) d * endsAt g h d) (λ d. markAt x d * endsAt g h d) l (λ d b n. ap (λ a. a * endsAt g h d) (getD-set-other x e d m 0 n))
+      sum-change (g .edges) e (λ d. markAt (set x e m) d * endsAt g h d) (λ d. markAt x d * endsAt g h d) l
+      (λ d b n. ap (λ a. a * endsAt g h d) (getD-set-other x e d m 0 n))
       ∙ ap (λ a. degree g x h + a * endsAt g h e) (getD-set-same x e m 0 k)
 
   -- An edge is chosen no more, or is chosen.

@@ -1,18 +1,20 @@
 -- One step of the walk back: after the flip the walk can go on from the edge's other end, and what it then does makes the whole walk.
-use Prim.Native.Nat.{ℕ, _+_, _-_, _≤_, _<_}
+use Prim.Native.Nat.{ℕ, _+_, _≤_, _<_}
 use mathlib.Core.Path.{_≡_, refl, sym, ap, _∙_}
 use mathlib.Core.Logic.{_≢_}
-use mathlib.Core.List.{List}
+use mathlib.Core.List.{List, []}
 use native.Mathlib.Omega.{arith}
 use native.Mathlib.Decide.{ℕ-discrete, decLt}
-use lib.ListN.{length, getD, set, length-set}
+use lib.ListN.{length, set, length-set}
 use lib.Seq.{getD-set-same, getD-set-other}
 use Rattle.integers.specs.Sum.{is}
-use Rattle.graph.specs.declared.Kind.{Kind}
-use Rattle.graph.specs.Graph.{Graph, columnVertex, firstEnd, secondEnd}
+use Rattle.graph.specs.declared.Shape.{Shape}
+use Rattle.graph.specs.Graph.{Graph, graphOf, columnAt, firstEnd, secondEnd}
 use Rattle.graph.specs.Subgraph.{markAt, degree}
-use Rattle.method.specs.Method.{Link, Labels, Augmented}
-use Rattle.augment.specs.Augment.{Ready, Flipped}
+use Rattle.tree.specs.Method.{Link, Labels, Augmented}
+use Rattle.tree.specs.Tree.{entries}
+use Rattle.tree.proofs.Solvable.{after-rows}
+use Rattle.augment.specs.Augment.{Walkable, Flipped}
 use Rattle.augment.proofs.Degree.{degree-off, degree-on}
 
 module _ {g : Graph} {x : List ℕ} {rank : ℕ → ℕ} where
@@ -34,37 +36,37 @@ module _ {g : Graph} {x : List ℕ} {rank : ℕ → ℕ} where
   by-rank {near = near} l r b q = omega (arith, ap rank (sym (l .end) ∙ ap (near g) q ∙ r .end))
 
 -- Where the walk ends.
-pub at-root : {g : Graph} {rows root v : ℕ} {row column label rank x : List ℕ} → Ready g rows row column label rank root v x → v ≡ root → Augmented g (λ h. getD label h 0) (λ h. getD rank h 0) root v x x
-at-root {g = g} {x = x} r e = record {
+pub at-root : {s : Shape} {root v : ℕ} {row column label rank x : List ℕ} → Walkable s row column label rank root v x → v ≡ root →
+    Augmented (graphOf s row column []) (entries label) (entries rank) root v x x
+at-root {s} {row = row} {column} {x = x} r e = record {
   long = refl;
-  from-row = λ l h. ap (λ k. degree g x h + is k h) e;
-  from-column = λ l h. absurd (omega (arith, e, r .root-in, r .rowsAre));
+  from-row = λ l h. ap (λ k. degree (graphOf s row column []) x h + is k h) e;
+  from-column = λ l h. absurd (omega (arith, e, r .root-in));
   marks = λ all. all;
   kept = λ d none. refl;
 }
 
-module _ {g : Graph} {rows root v w : ℕ} {row column label rank x y : List ℕ} (r : Ready g rows row column label rank root v x) (ne : v ≢ root)
-    (f : Flipped rows row column (getD label v 0) v x y w) where
+module _ {s : Shape} {root v w : ℕ} {row column label rank x y : List ℕ} (r : Walkable s row column label rank root v x) (ne : v ≢ root)
+    (f : Flipped (graphOf s row column []) (entries label v) v x y w) where
+  abbrev g : Graph
+  g = graphOf s row column []
+
   abbrev edge : ℕ
-  edge = getD label v 0
+  edge = entries label v
 
   abbrev ranked : ℕ → ℕ
-  ranked h = getD rank h 0
+  ranked = entries rank
 
   abbrev labelled : ℕ → ℕ
-  labelled h = getD label h 0
+  labelled = entries label
 
   -- From a row vertex.
-  module _ (l : v < rows) where
+  module _ (l : v < g .rows) where
     row-link : Link g x firstEnd secondEnd ranked 1 edge v
-    row-link = r .labels .of-row v (omega (arith, r .rowsAre)) ne (r .seen) (omega arith)
+    row-link = r .labels .of-row v l ne (r .seen) (omega arith)
 
     row-next : secondEnd g edge ≡ w
-    row-next =
-        ap (λ (k : Kind). columnVertex k (g .rows) (getD (g .column) edge 0)) (r .bipartite)
-        ∙ ap (λ n. n + (getD (g .column) edge 0 - 1)) (r .rowsAre)
-        ∙ ap (λ (c : List ℕ). rows + (getD c edge 0 - 1)) (r .columnIs)
-        ∙ sym (f .from-row l .1)
+    row-next = sym (f .from-row l .1)
 
     row-labels : Labels g y labelled ranked root (ranked w)
     row-labels = rw (f .from-row l .0) (record {
@@ -87,12 +89,12 @@ module _ {g : Graph} {rows root v w : ℕ} {row column label rank x y : List ℕ
         )
 
   -- From a column vertex.
-  module _ (l : rows ≤ v) where
+  module _ (l : g .rows ≤ v) where
     column-link : Link g x secondEnd firstEnd ranked 0 edge v
-    column-link = r .labels .of-column v (omega (arith, r .rowsAre)) (r .inside) (r .seen) (omega arith)
+    column-link = r .labels .of-column v l (r .inside) (r .seen) (omega arith)
 
     column-next : firstEnd g edge ≡ w
-    column-next = ap (λ (c : List ℕ). getD c edge 0 - 1) (r .rowIs) ∙ sym (f .from-column l .1)
+    column-next = sym (f .from-column l .1)
 
     column-labels : Labels g y labelled ranked root (ranked w)
     column-labels = rw (f .from-column l .0) (record {
@@ -115,53 +117,51 @@ module _ {g : Graph} {rows root v w : ℕ} {row column label rank x y : List ℕ
         )
 
   next-long : length y ≡ length x
-  next-long = elim (decLt v rows) [
+  next-long = elim (decLt v (g .rows)) [
     | yes l ↦ ap length (f .from-row l .0) ∙ length-set x edge 0
     | no l ↦ ap length (f .from-column (omega (arith, l)) .0) ∙ length-set x edge 1
   ]
 
   -- The walk comes nearer to the root.
   pub falls : ranked w < ranked v
-  falls = elim (decLt v rows) [
+  falls = elim (decLt v (g .rows)) [
     | yes l ↦ omega (arith, row-link l .less, ap ranked (row-next l))
     | no l ↦ omega (arith, column-link (omega (arith, l)) .less, ap ranked (column-next (omega (arith, l))))
   ]
 
   -- It can go on.
-  pub goes-on : Ready g rows row column label rank root w y
+  pub goes-on : Walkable s row column label rank root w y
   goes-on = record {
     bipartite = r .bipartite;
-    rowsAre = r .rowsAre;
-    rowIs = r .rowIs;
-    columnIs = r .columnIs;
-    network = r .network;
-    from-one = r .from-one;
-    row-long = r .row-long;
-    column-long = r .column-long;
+    sound = r .sound;
     long = next-long ∙ r .long;
     label-long = r .label-long;
-    labels = elim (decLt v rows) [ yes l ↦ row-labels l | no l ↦ column-labels (omega (arith, l)) ];
+    labels = elim (decLt v (g .rows)) [ yes l ↦ row-labels l | no l ↦ column-labels (omega (arith, l)) ];
     root-in = r .root-in;
-    inside = elim (decLt v rows) [
-      | yes l ↦ omega (arith, row-next l, r .network .second-to edge (row-link l .inside))
+    inside = elim (decLt v (g .rows)) [
+      | yes l ↦ omega (arith, row-next l, r .sound .ends edge (row-link l .inside) .second)
       | no l ↦
           omega (
             arith,
             column-next (omega (arith, l)),
-            r .network .first-to edge (column-link (omega (arith, l)) .inside),
-            r .network .rows-in,
+            r .sound .ends edge (column-link (omega (arith, l)) .inside) .first,
           )
     ];
-    seen = elim (decLt v rows) [
+    seen = elim (decLt v (g .rows)) [
       | yes l ↦ omega (arith, ap ranked (row-next l), row-link l .seen)
       | no l ↦ omega (arith, ap ranked (column-next (omega (arith, l))), column-link (omega (arith, l)) .seen)
     ];
   }
 
   next-marks : ((e : ℕ) → markAt x e ≤ 1) → (e : ℕ) → markAt y e ≤ 1
-  next-marks all e = elim (decLt v rows) [
+  next-marks all e = elim (decLt v (g .rows)) [
     | yes l ↦ omega (arith, ap (λ (z : List ℕ). markAt z e) (f .from-row l .0), changed 0 (omega arith) (row-link l .inside))
-    | no l ↦ omega (arith, ap (λ (z : List ℕ). markAt z e) (f .from-column (omega (arith, l)) .0), changed 1 (omega arith) (column-link (omega (arith, l)) .inside))
+    | no l ↦
+        omega (
+          arith,
+          ap (λ (z : List ℕ). markAt z e) (f .from-column (omega (arith, l)) .0),
+          changed 1 (omega arith) (column-link (omega (arith, l)) .inside),
+        )
   ]
     where
       changed : (m : ℕ) → m ≤ 1 → edge < g .edges → markAt (set x edge m) e ≤ 1
@@ -171,7 +171,7 @@ module _ {g : Graph} {rows root v w : ℕ} {row column label rank x y : List ℕ
       ]
 
   next-kept : (e : ℕ) → e ≢ edge → markAt y e ≡ markAt x e
-  next-kept e n = elim (decLt v rows) [
+  next-kept e n = elim (decLt v (g .rows)) [
     | yes l ↦ ap (λ (z : List ℕ). markAt z e) (f .from-row l .0) ∙ getD-set-other x edge e 0 0 n
     | no l ↦ ap (λ (z : List ℕ). markAt z e) (f .from-column (omega (arith, l)) .0) ∙ getD-set-other x edge e 1 0 n
   ]
@@ -181,30 +181,18 @@ module _ {g : Graph} {rows root v w : ℕ} {row column label rank x y : List ℕ
   whole a = record {
     long = a .long ∙ next-long;
     from-row = λ l h.
-        let b : v < rows = omega (arith, r .rowsAre) in
-        let c : g .rows ≤ w = omega (arith, row-next b, r .network .second-from edge (row-link b .inside)) in
-        omega (arith, row-degree b h, a .from-column c h);
+        let c : g .rows ≤ w = omega (arith, row-next l, after-rows (g .kind) (g .rows) (columnAt g edge) (r .bipartite)) in
+        omega (arith, row-degree l h, a .from-column c h);
     from-column = λ l h.
-        let b : rows ≤ v = omega (arith, r .rowsAre) in
-        let c : w < g .rows = omega (arith, column-next b, r .network .first-to edge (column-link b .inside)) in
-        omega (arith, column-degree b h, a .from-row c h);
+        let c : w < g .rows = omega (arith, column-next l, r .sound .ends edge (column-link l .inside) .inRows) in
+        omega (arith, column-degree l h, a .from-row c h);
     marks = λ all. a .marks (next-marks all);
     kept = λ e none. a .kept e none ∙ next-kept e (λ q. none v (r .inside) ne (r .seen) (sym q));
   }
 
 -- The label of a vertex that is not the root is an edge.
-pub edge-in : {g : Graph} {rows root v : ℕ} {row column label rank x : List ℕ} → Ready g rows row column label rank root v x → v ≢ root → getD label v 0 < g .edges
-edge-in {g = g} {v = v} r ne = elim (decLt v (g .rows)) [
+pub edge-in : {s : Shape} {root v : ℕ} {row column label rank x : List ℕ} → Walkable s row column label rank root v x → v ≢ root → entries label v < s .edges
+edge-in {s} {v = v} r ne = elim (decLt v (s .rows)) [
   | yes l ↦ r .labels .of-row v l ne (r .seen) (omega arith) .inside
   | no l ↦ r .labels .of-column v (omega (arith, l)) (r .inside) (r .seen) (omega arith) .inside
 ]
-
--- What the flip asks.
-pub flips : {g : Graph} {rows root v : ℕ} {row column label rank x : List ℕ} → Ready g rows row column label rank root v x → v ≢ root
-    → ((getD label v 0 < length x) × (getD label v 0 < length row) × (getD label v 0 < length column)) × ((1 ≤ getD row (getD label v 0) 0) × (1 ≤ getD column (getD label v 0) 0))
-flips {v = v} {label = label} r ne =
-    let l = edge-in r ne in
-    let o = r .from-one (getD label v 0) l in (
-      (omega (arith, r .long), omega (arith, r .row-long), omega (arith, r .column-long)),
-      (rw (r .rowIs) at (o .0), rw (r .columnIs) at (o .1)),
-    )

@@ -18,17 +18,22 @@ use Rattle.bits.specs.Word.{bitOf}
 use Rattle.bits.proofs.Word.{popcount, low-bit, ones-most}
 
 -- Bit k of word w of a row.
-pub bit-word : (ws : List ℕ) (w k : ℕ) → k < 64 → bit ws (64 * w + k) ≡ bitOf (getD ws w 0) k
+bit-word : (ws : List ℕ) (w k : ℕ) → k < 64 → bit ws (64 * w + k) ≡ bitOf (getD ws w 0) k
 bit-word ws w k l =
     let q : (64 * w + k) / 64 ≡ w = omega arith in
     let r : (64 * w + k) % 64 ≡ k = omega arith in
     ap₂ (λ a b. eqb (getD ws a 0 / 2 ^ b % 2) 1) q r
 
--- The same counted from word from on.
+-- The same counted from word from on: bit t of the word i after it, and bit i of all.
 bit-later : (ws : List ℕ) (from i t : ℕ) → t < 64 → bit ws (64 * from + (64 * i + t)) ≡ bitOf (getD ws (from + i) 0) t
 bit-later ws from i t l =
     let e : 64 * from + (64 * i + t) ≡ 64 * (from + i) + t = omega arith in
     ap (bit ws) e ∙ bit-word ws (from + i) t l
+
+pub bit-from : (ws : List ℕ) (from i : ℕ) → bit ws (64 * from + i) ≡ bitOf (getD ws (from + i / 64) 0) (i % 64)
+bit-from ws from i =
+    let e : i ≡ 64 * (i / 64) + i % 64 = omega arith in
+    ap (λ k. bit ws (64 * from + k)) e ∙ bit-later ws from (i / 64) (i % 64) (omega arith)
 
 -- ---- counting
 
@@ -43,14 +48,14 @@ abbrev among : List ℕ → ℕ → ℕ → ℕ → ℕ
 among ws from k j = one (ltb j k && bit ws (64 * from + j))
 
 -- The ones of the first i of count words that are among the first k bits.
-pub record Counted (ws : List ℕ) (from count k i total : ℕ) : Type 0 where
+pub record OnesCounted (ws : List ℕ) (from count k i total : ℕ) : Type 0 where
   pub within : i ≤ count
   pub counted : total ≡ sum (64 * i) (λ j. one (ltb j k && bit ws (64 * from + j)))
 
-pub counted-none : {ws : List ℕ} {from count k : ℕ} → Counted ws from count k 0 0
+pub counted-none : {ws : List ℕ} {from count k : ℕ} → OnesCounted ws from count k 0 0
 counted-none = record { within = omega arith; counted = refl }
 
-module _ {ws : List ℕ} {from count k i total : ℕ} (C : Counted ws from count k i total) where
+module _ {ws : List ℕ} {from count k i total : ℕ} (C : OnesCounted ws from count k i total) where
   pub counted-small : total ≤ 64 * i
   counted-small = omega (arith, C .counted, ones-most (64 * i) (λ j. ltb j k && bit ws (64 * from + j)))
 
@@ -64,7 +69,8 @@ module _ {ws : List ℕ} {from count k i total : ℕ} (C : Counted ws from count
       (low-bit (getD ws (from + i) 0) (k - 64 * i) t
       ∙ ap₂ _&&_ (test-moved (64 * i) t k) (sym (bit-later ws from i t (omega arith)))))
 
-  more : (m x next : ℕ) → m ≡ 64 → x ≡ getD ws (from + i) 0 % 2 ^ (k - 64 * i) → x < 2 ^ m → i < count → next ≡ total + ones x → Counted ws from count k (i + 1) next
+  more : (m x next : ℕ) → m ≡ 64 → x ≡ getD ws (from + i) 0 % 2 ^ (k - 64 * i) → x < 2 ^ m → i < count → next ≡ total + ones x →
+      OnesCounted ws from count k (i + 1) next
   more m x next e s h l is =
       let w : 64 * (i + 1) ≡ 64 * i + m = omega arith in
       record {
@@ -76,7 +82,8 @@ module _ {ws : List ℕ} {from count k i total : ℕ} (C : Counted ws from count
             ∙ sym (ap (λ n. sum n (among ws from k)) w);
       }
 
-  pub counted-more : {x next : ℕ} → x ≡ getD ws (from + i) 0 % 2 ^ (k - 64 * i) → x < 2 ^ 64 → i < count → next ≡ total + ones x → Counted ws from count k (i + 1) next
+  pub counted-more : {x next : ℕ} → x ≡ getD ws (from + i) 0 % 2 ^ (k - 64 * i) → x < 2 ^ 64 → i < count → next ≡ total + ones x →
+      OnesCounted ws from count k (i + 1) next
   counted-more {x} {next} = more 64 x next refl
 
   pub counted-all : count ≤ i → k ≤ 64 * count → (total ≡ sum k (λ j. one (bit ws (64 * from + j)))) × (total ≤ k)
@@ -102,7 +109,8 @@ pub record Clear (ws : List ℕ) (from count k i : ℕ) : Type 0 where
 pub clear-none : {ws : List ℕ} {from count k : ℕ} → Clear ws from count k 0
 clear-none = record { within = omega arith; clear = λ j h l. absurd (omega arith) }
 
-module _ {ws : List ℕ} {from count k i : ℕ} (C : Clear ws from count k i) {x a : ℕ} (word : x ≡ getD ws (from + i) 0) (start : a ≡ k - 64 * i) (more : i < count) where
+module _ {ws : List ℕ} {from count k i : ℕ} (C : Clear ws from count k i) {x a : ℕ} (word : x ≡ getD ws (from + i) 0) (start : a ≡ k - 64 * i)
+    (more : i < count) where
   pub clear-more : false ≡ some? (64 - a) (λ j. bitOf x (a + j)) → Clear ws from count k (i + 1)
   clear-more none = record { within = omega arith; clear = at }
     where

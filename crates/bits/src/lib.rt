@@ -1,5 +1,5 @@
 // Bits of rows of 64-bit words.
-ghost use Prim.Native.Nat.{_+_, _*_, _-_, _%_, _^_, _≤_, _<_};
+ghost use Prim.Native.Nat.{_+_, _*_, _-_, _/_, _%_, _^_, _≤_, _<_};
 ghost use mathlib.Core.Path.{_≡_};
 ghost use lib.ListN.{length};
 ghost use Rattle.integers.specs.Sum.{sum};
@@ -7,26 +7,37 @@ ghost use Rattle.graph.specs.Graph.{some?};
 ghost use Rattle.dual.specs.Prices.{bit, one};
 ghost use Rattle.bits.specs.Word.{bitOf};
 
-// Bit k of word w.
-pub fn bit_at(words: &[u64], w: usize, k: u32) -> bool
-    requires { ⌜ (w < length (now words)) × (k < 64) ⌝ }
-    ensures { λ r. ⌜ r ≡ bit (now (words .entry)) (64 * w + k) ⌝ }
+// The bits of a word.
+const WORD_BITS: usize = 64;
+
+// Bit i of the words from word from on.
+pub fn bit_at(words: &[u64], from: usize, i: usize) -> bool
+    requires { ⌜ from + i / 64 < length (now words) ⌝ }
+    ensures { λ r. ⌜ r ≡ bit (now (words .entry)) (64 * from + i) ⌝ }
 {
-    (words[w] >> k) & 1 == 1
+    (words[from + i / WORD_BITS] >> (i % WORD_BITS)) & 1 == 1
 }
 
 // The low k bits of a word.
 fn low(word: u64, k: u64) -> u64
     ensures { λ r. ⌜ r ≡ word % 2 ^ k ⌝ }
 {
-    if k < 64 { word & ((1 << k) - 1) } else { word }
+    if k < WORD_BITS as u64 {
+        word & ((1 << k) - 1)
+    } else {
+        word
+    }
 }
 
 // Whether a bit of the word is set from bit k on.
 fn above(word: u64, k: u64) -> bool
     ensures { λ r. ⌜ r ≡ some? (64 - k) (λ j. bitOf word (k + j)) ⌝ }
 {
-    if k < 64 { word >> k != 0 } else { false }
+    if k < WORD_BITS as u64 {
+        word >> k != 0
+    } else {
+        false
+    }
 }
 
 // How many of the first k bits are left after i words.
@@ -34,7 +45,7 @@ fn left(k: u64, i: usize) -> u64
     requires { ⌜ i ≤ 16 ⌝ }
     ensures { λ r. ⌜ r ≡ k - 64 * i ⌝ }
 {
-    let passed = 64 * i as u64;
+    let passed = (WORD_BITS * i) as u64;
     if k < passed { 0 } else { k - passed }
 }
 

@@ -18,7 +18,8 @@ use Rattle.dual.specs.declared.Measures.{Measures}
 use Rattle.dual.specs.Sets.{capacity}
 use Rattle.dual.specs.Measure.{measure}
 use Rattle.cases.specs.Trying.{isFeasible, best}
-use Rattle.cases.specs.Table.{Claim, largest, optimal, line, gap, capacityOf, taken, refused, Case, Holds, holds, sameℤ, sameBest, gapIs, lineIs, isTaken, isRefused, all, All, table, tableHolds}
+use Rattle.cases.specs.Table.{Claim, largest, optimal, line, gap, capacityOf, taken, refused, Case, States, holds, sameℤ, sameBest, gapIs}
+use Rattle.cases.specs.Table.{lineIs, isTaken, isRefused, all, All, table, tableHolds}
 use Rattle.cases.proofs.Trying.{best-optimal, weighs-best}
 
 same-eq : (a b : ℤ) → sameℤ a b ≡ true → a ≡ b
@@ -45,7 +46,8 @@ refused-eq (refuses f q) n p e =
 line-eq : (o : Outcome Measures) (w t v s e k d : ℤ) → lineIs o w t v s e k d ≡ true
     → o ≡ yields (record { weight = w; total = t; vertices = v; sets = s; edges = e; cover = k; gap = d })
 line-eq (yields m) w t v s e k d h =
-    let a = both (sameℤ (m .weight) w && sameℤ (m .total) t && sameℤ (m .vertices) v && sameℤ (m .sets) s && sameℤ (m .edges) e && sameℤ (m .cover) k) (sameℤ (m .gap) d) h in
+    let a = both (sameℤ (m .weight) w && sameℤ (m .total) t && sameℤ (m .vertices) v && sameℤ (m .sets) s && sameℤ (m .edges) e && sameℤ (m .cover) k)
+    (sameℤ (m .gap) d) h in
     let b = both (sameℤ (m .weight) w && sameℤ (m .total) t && sameℤ (m .vertices) v && sameℤ (m .sets) s && sameℤ (m .edges) e) (sameℤ (m .cover) k) (a .0) in
     let c = both (sameℤ (m .weight) w && sameℤ (m .total) t && sameℤ (m .vertices) v && sameℤ (m .sets) s) (sameℤ (m .edges) e) (b .0) in
     let f = both (sameℤ (m .weight) w && sameℤ (m .total) t && sameℤ (m .vertices) v) (sameℤ (m .sets) s) (c .0) in
@@ -63,7 +65,7 @@ line-eq (yields m) w t v s e k d h =
 line-eq (refuses f p) w t v s e k d h = zero-one (cc)
 
 -- A claim whose test is true holds.
-pub claim : (c : Case) (k : Claim) → holds c k ≡ true → Holds c k
+pub claim : (c : Case) (k : Claim) → holds c k ≡ true → States c k
 claim c (largest w) e = best-optimal (c .graph) (c .bound) w (best-eq (best (c .graph) (c .bound)) w e)
 claim c optimal e =
     let s = both (isFeasible (c .graph) (c .bound) (c .chosen)) (sameBest (best (c .graph) (c .bound)) (weightOf (c .graph) (c .chosen))) e in
@@ -86,5 +88,7 @@ unfolding table measure
 computed = refl
 
 -- Every claim of every case holds.
-pub cases : All (λ c. All (Holds c) (c .claims)) table
-cases = every-member (λ c. all (holds c) (c .claims)) (λ c. All (Holds c) (c .claims)) (λ c. every-member (holds c) (Holds c) (claim c) (c .claims)) table computed
+pub cases : All (λ c. All (States c) (c .claims)) table
+cases =
+    every-member (λ c. all (holds c) (c .claims)) (λ c. All (States c) (c .claims)) (λ c. every-member (holds c) (States c) (claim c) (c .claims))
+    table computed

@@ -3,7 +3,8 @@ use Prim.Native.Nat.{ℕ, zero, suc, _≤_, _<_}
 use mathlib.Core.Path.{_≡_, refl, sym, ap, _∙_, subst}
 use mathlib.Core.Logic.{_⊎_, inl, inr}
 use mathlib.Core.Bool.{Bool, true, false, cond, _&&_}
-use mathlib.Core.List.{List, [], _∷_, map, List·Memᴰ, List·Memᴰ·head, List·Memᴰ·tail, List·Memᴰ·cases-cons, List·Memᴰ·not-nil, Memᴰ·append-left, Memᴰ·append-right}
+use mathlib.Core.List.{List, [], _∷_, map, List·Memᴰ, List·Memᴰ·head, List·Memᴰ·tail, List·Memᴰ·cases-cons, List·Memᴰ·not-nil, Memᴰ·append-left}
+use mathlib.Core.List.{Memᴰ·append-right}
 use mathlib.Core.Option.{Option, none, some}
 use native.Mathlib.Omega.{arith}
 use lib.Dec.{leb, eqb}
@@ -99,7 +100,8 @@ module _ (g : Graph) (bound : List ℤ) where
   none-found [] e y m f = List·Memᴰ·not-nil m
   none-found (x ∷ xs) e y m f = go (isFeasible g bound x) refl e (List·Memᴰ·cases-cons m) (none-found xs)
     where
-      go : (b : Bool) → isFeasible g bound x ≡ b → cond b (some (larger (weightOf g x) (bestOf g bound xs))) (bestOf g bound xs) ≡ none → (y ≡ x) ⊎ List·Memᴰ y xs
+      go : (b : Bool) → isFeasible g bound x ≡ b → cond b (some (larger (weightOf g x) (bestOf g bound xs))) (bestOf g bound xs) ≡ none →
+          (y ≡ x) ⊎ List·Memᴰ y xs
           → (bestOf g bound xs ≡ none → (y : List ℕ) → List·Memᴰ y xs → isFeasible g bound y ≡ true → ⊥) → ⊥
       go true p q c ih = zero-one (cc)
       go false p q (inl c) ih = zero-one (let r : isFeasible g bound y ≡ false = ap (isFeasible g bound) c ∙ p in cc)
@@ -125,7 +127,8 @@ module _ (g : Graph) (bound : List ℤ) where
       go y (inl c) f = rw c (≤ℤ-refl (weightOf g x))
       go y (inr c) f = absurd (none-found xs q y c f)
 
-  found-both : (x : List ℕ) (xs : List (List ℕ)) (v : ℤ) → isFeasible g bound x ≡ true → Found g bound xs v → Found g bound (x ∷ xs) (larger (weightOf g x) (some v))
+  found-both : (x : List ℕ) (xs : List (List ℕ)) (v : ℤ) → isFeasible g bound x ≡ true → Found g bound xs v →
+      Found g bound (x ∷ xs) (larger (weightOf g x) (some v))
   found-both x xs v p F = go (larger-one (weightOf g x) v)
     where
       most : (y : List ℕ) → (y ≡ x) ⊎ List·Memᴰ y xs → isFeasible g bound y ≡ true → weightOf g y ≤ℤ larger (weightOf g x) (some v)

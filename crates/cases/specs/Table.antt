@@ -11,7 +11,7 @@ use lib.Signed.{leZ}
 use Rattle.graph.specs.declared.Kind.the-variants.{Bipartite, General}
 use Rattle.graph.specs.declared.Fault.{Fault}
 use Rattle.graph.specs.Refusal.{Outcome, yields, refuses, numberOf}
-use Rattle.graph.specs.Graph.{Graph}
+use Rattle.graph.specs.Graph.{Graph, graphOf}
 use Rattle.graph.specs.Subgraph.{Optimal, weightOf}
 use Rattle.dual.specs.declared.Measures.{Measures}
 use Rattle.dual.specs.Prices.{Prices}
@@ -47,16 +47,16 @@ pub record Case : Type 0 where
   pub claims : List Claim
 
 -- What a claim states about the definitions.
-abbrev pub Holds : Case → Claim → Type 0
-Holds c (largest w) = (x : List ℕ) × Optimal (c .graph) (c .bound) x × (weightOf (c .graph) x ≡ w)
-Holds c optimal = Optimal (c .graph) (c .bound) (c .chosen)
-Holds c (line w t v s e k d) =
+abbrev pub States : Case → Claim → Type 0
+States c (largest w) = (x : List ℕ) × Optimal (c .graph) (c .bound) x × (weightOf (c .graph) x ≡ w)
+States c optimal = Optimal (c .graph) (c .bound) (c .chosen)
+States c (line w t v s e k d) =
     measure (c .graph) (c .bound) (c .chosen) (c .prices)
     ≡ yields (record { weight = w; total = t; vertices = v; sets = s; edges = e; cover = k; gap = d })
-Holds c (gap z) = (m : Measures) × (measure (c .graph) (c .bound) (c .chosen) (c .prices) ≡ yields m) × (m .gap ≡ z)
-Holds c (capacityOf s q) = capacity (c .graph) (c .bound) (c .prices) s ≡ q
-Holds c taken = (m : Measures) × (measure (c .graph) (c .bound) (c .chosen) (c .prices) ≡ yields m)
-Holds c (refused n p) = (f : Fault) × (measure (c .graph) (c .bound) (c .chosen) (c .prices) ≡ refuses f p) × (numberOf f ≡ n)
+States c (gap z) = (m : Measures) × (measure (c .graph) (c .bound) (c .chosen) (c .prices) ≡ yields m) × (m .gap ≡ z)
+States c (capacityOf s q) = capacity (c .graph) (c .bound) (c .prices) s ≡ q
+States c taken = (m : Measures) × (measure (c .graph) (c .bound) (c .chosen) (c .prices) ≡ yields m)
+States c (refused n p) = (f : Fault) × (measure (c .graph) (c .bound) (c .chosen) (c .prices) ≡ refuses f p) × (numberOf f ≡ n)
 
 -- The test that is computed.
 abbrev pub sameℤ : ℤ → ℤ → Bool
@@ -106,18 +106,10 @@ All P (x ∷ xs) = P x × All P xs
 
 -- A bipartite graph from its edges' rows, columns and weights, and a general one.
 abbrev bipartite : ℕ → ℕ → List ℕ → List ℕ → List ℤ → Graph
-bipartite r c row column weight = record {
-  kind = Bipartite;
-  rows = r;
-  columns = c;
-  edges = length row;
-  row = row;
-  column = column;
-  weight = weight;
-}
+bipartite r c row column weight = graphOf (record { kind = Bipartite; rows = r; columns = c; edges = length row }) row column weight
 
 abbrev general : ℕ → List ℕ → List ℕ → List ℤ → Graph
-general n row column weight = record { kind = General; rows = n; columns = n; edges = length row; row = row; column = column; weight = weight }
+general n row column weight = graphOf (record { kind = General; rows = n; columns = n; edges = length row }) row column weight
 
 -- Prices with one odd set: its price, its first word of vertices and its first word of edges.
 abbrev withSet : List ℤ → List ℤ → ℤ → ℕ → ℕ → Prices

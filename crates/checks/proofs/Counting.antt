@@ -15,25 +15,11 @@ use Rattle.graph.specs.Refusal.{lowest}
 use Rattle.graph.specs.Graph.{Graph, firstEnd, secondEnd, boundAt}
 use Rattle.graph.specs.Subgraph.{markAt, endsAt, degree}
 use Rattle.graph.proofs.Passing.{lowest-cong}
-use Rattle.checks.specs.Checks.{unweighted, Countable, Grown}
-use Rattle.checks.proofs.Sound.{Sound}
-
--- A sound graph's degrees can be counted.
-pub countable : (g : Graph) → Sound g → length (g .row) ≡ g .edges → Countable (unweighted (g .kind) (g .rows) (g .columns) (g .row) (g .column))
-countable g S l = record {
-  few = omega (arith, S .sizes .few);
-  rows = λ e b. S .ends e (omega arith) .row .least;
-  columns = λ e b. S .ends e (omega arith) .column .least;
-  first = λ e b. omega (arith, S .ends e (omega arith) .first, S .sizes .order);
-  second = λ e b. omega (arith, S .ends e (omega arith) .second, S .sizes .order);
-}
-
--- The degree in a graph is that in its unweighted one.
-pub degree-unweighted : (g : Graph) (x : List ℕ) (v : ℕ) → length (g .row) ≡ g .edges → degree (unweighted (g .kind) (g .rows) (g .columns) (g .row) (g .column)) x v ≡ degree g x v
-degree-unweighted g x v l = ap (λ n. sum n (λ e. markAt x e * endsAt g v e)) l
+use Rattle.checks.specs.Checks.{Grown}
 
 -- The degrees' test may be made on the counted degrees.
-pub counted-over : (g : Graph) (bound : List ℤ) (x d : List ℕ) (n : ℕ) → n ≤ 128 → ((v : ℕ) → v < 128 → getD d v 0 ≡ degree g x v) → lowest n (λ v. leZ (pos (getD d v 0)) (boundAt bound v)) ≡ lowest n (λ v. leZ (pos (degree g x v)) (boundAt bound v))
+pub counted-over : (g : Graph) (bound : List ℤ) (x d : List ℕ) (n : ℕ) → n ≤ 128 → ((v : ℕ) → v < 128 → getD d v 0 ≡ degree g x v) →
+    lowest n (λ v. leZ (pos (getD d v 0)) (boundAt bound v)) ≡ lowest n (λ v. leZ (pos (degree g x v)) (boundAt bound v))
 counted-over g bound x d n few is =
     lowest-cong n (λ v. leZ (pos (getD d v 0)) (boundAt bound v)) (λ v. leZ (pos (degree g x v)) (boundAt bound v))
     (λ v l. ap (λ k. leZ (pos k) (boundAt bound v)) (is v (omega arith)))
@@ -54,7 +40,8 @@ pub add-at-most : (d : List ℕ) (i m v : ℕ) → i < length d → getD (set d 
 add-at-most d i m v l = omega (arith, add-at d i m v l, mul-le-mul-left m (is-le i v), mul-one m)
 
 -- Two stores, one for each end.
-pub grown : (d : List ℕ) (i j m : ℕ) → length d ≡ 128 → i < 128 → j < 128 → Grown d (set (set d i (getD d i 0 + m)) j (getD (set d i (getD d i 0 + m)) j 0 + m)) i j m
+pub grown : (d : List ℕ) (i j m : ℕ) → length d ≡ 128 → i < 128 → j < 128 →
+    Grown d (set (set d i (getD d i 0 + m)) j (getD (set d i (getD d i 0 + m)) j 0 + m)) i j m
 grown d i j m l p q = record {
   each = λ v b.
       add-at (set d i (getD d i 0 + m)) j m v (omega (arith, length-set d i (getD d i 0 + m)))
@@ -84,17 +71,29 @@ module _ {g : Graph} {x d : List ℕ} where
         small : (n : ℕ) → n ≤ g .edges → sum n (λ k. markAt x k * endsAt g v k) ≤ 2 * n
         small zero l = omega arith
         small (suc n) l =
-            omega (arith, small n (omega arith), one (markAt x n) (is (firstEnd g n) v) (is (secondEnd g n) v) (marks n (omega arith)) (is-le (firstEnd g n) v) (is-le (secondEnd g n) v))
+            omega (
+              arith,
+              small n (omega arith),
+              one (markAt x n) (is (firstEnd g n) v) (is (secondEnd g n) v) (marks n (omega arith)) (is-le (firstEnd g n) v)
+                  (is-le (secondEnd g n) v),
+            )
 
     -- One more edge.
-    pub counted-more : {new : List ℕ} {i j m : ℕ} → e < g .edges → length new ≡ length d → markAt x e ≡ m → firstEnd g e ≡ i → secondEnd g e ≡ j → Grown d new i j m → Counted g x new (e + 1)
+    pub counted-more : {new : List ℕ} {i j m : ℕ} → e < g .edges → length new ≡ length d → markAt x e ≡ m → firstEnd g e ≡ i → secondEnd g e ≡ j →
+        Grown d new i j m → Counted g x new (e + 1)
     counted-more {new} {i} {j} {m} l k p q r G = record {
       within = omega arith;
       long = k ∙ C .long;
       each = λ v b.
           G .each v b
-          ∙ omega
-          (arith, C .each v b, sum-next e (λ k. markAt x k * endsAt g v k), ap (λ k. k * endsAt g v e) p, ap (λ k. m * (is k v + is (secondEnd g e) v)) q, ap (λ k. m * (is i v + is k v)) r);
+          ∙ omega (
+            arith,
+            C .each v b,
+            sum-next e (λ k. markAt x k * endsAt g v k),
+            ap (λ k. k * endsAt g v e) p,
+            ap (λ k. m * (is k v + is (secondEnd g e) v)) q,
+            ap (λ k. m * (is i v + is k v)) r,
+          );
     }
 
     -- After all edges.

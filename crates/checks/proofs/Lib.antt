@@ -1,7 +1,8 @@
 -- The laws of the tests.
 pub mod Scan
-pub mod Ends
+pub mod Table
 pub mod Ranges
 pub mod Refusals
-pub mod Sound
+pub mod Shown
+pub mod Rows
 pub mod Counting

@@ -28,7 +28,8 @@ module _ (a b : Bool) {x : Bool} (i : x ≡ a) where
       all-third e f = ap₂ (λ (t u : Bool). t && u && c) (sym e ∙ i) (sym f ∙ j)
 
 -- Ends in range have a flag.
-pub ends-flagged : (kind : Kind) (rows columns edges r c : ℕ) → sizesInRange kind rows columns edges ≡ true → endsInRange kind rows columns r c ≡ true → Flagged r × Flagged c
+pub ends-flagged : (kind : Kind) (rows columns edges r c : ℕ) → sizesInRange kind rows columns edges ≡ true →
+    endsInRange kind rows columns r c ≡ true → Flagged r × Flagged c
 ends-flagged kind rows columns edges r c s e =
     let S = sizes-hold kind rows columns edges s in
     let E = ends-hold kind rows columns r c e in (

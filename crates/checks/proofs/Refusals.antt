@@ -1,32 +1,20 @@
 -- What tests yield after a check has made them, and what the tests on a graph's numbers yield, by the first that refuses.
 use Prim.Native.Nat.{ℕ, suc}
-use mathlib.Core.Path.{_≡_, refl, sym, ap, _∙_}
+use mathlib.Core.Path.{_≡_, sym, ap, _∙_}
 use mathlib.Core.Bool.{Bool, true, false, not}
 use mathlib.Core.List.{List, [], _∷_}
-use mathlib.Core.Option.{Option, none, some}
+use mathlib.Core.Option.{none, some}
 use Rattle.graph.specs.declared.Fault.the-variants.{Sizes, Ends, Weight, SameEnds}
 use Rattle.graph.specs.declared.Refusal.{Refusal}
-use Rattle.graph.specs.Refusal.{Outcome, yields, refuses, Test, each, lowest, found, passing}
+use Rattle.graph.specs.Refusal.{Outcome, yields, refuses, Test, each, lowest, passing}
 use Rattle.graph.specs.Graph.{Graph, rowAt, columnAt, weightAt, sizesInRange, endsInRange, weightInRange, joined}
 use Rattle.graph.specs.Tests.{graphTests}
-use Rattle.graph.proofs.Passing.{passing-none, passing-found, passing-yields, once-passes, once-refuses, once-yields}
+use Rattle.graph.proofs.Passing.{passing-none, passing-found, once-passes, once-refuses, goOn, passing-on}
 use Rattle.checks.specs.declared.Check.{Check}
 use Rattle.checks.specs.declared.Check.the-variants as Check
 use Rattle.checks.specs.Checks.{checkSays}
 
--- What a call yields whose first tests have been made by a check: the check's refusal, or the rest.
-abbrev pub goOn : {A : Type 0} → Outcome (Unit {0}) → Outcome A → Outcome A
-goOn (yields u) rest = rest
-goOn (refuses fault place) rest = refuses fault place
-
-pub passing-on : {A : Type 0} (ts : List Test) (rest : Outcome A) → passing ts rest ≡ goOn (passing ts (yields tt)) rest
-passing-on [] rest = refl
-passing-on (t ∷ ts) rest = go (lowest (t .items) (t .keeps)) (passing-on ts rest)
-  where
-    go : (l : Option ℕ) → passing ts rest ≡ goOn (passing ts (yields tt)) rest → found t l (passing ts rest) ≡ goOn (found t l (passing ts (yields tt))) rest
-    go none ih = ih
-    go (some k) ih = refl
-
+-- What a call yields whose first tests have been made by a check.
 module _ {A : Type 0} (ts : List Test) (rest : Outcome A) {r : Check} (says : checkSays r ≡ passing ts (yields tt)) where
   checked : (m : Check) → r ≡ m → passing ts rest ≡ goOn (checkSays m) rest
   checked m is = passing-on ts rest ∙ ap (λ u. goOn u rest) (sym says ∙ ap checkSays is)
@@ -38,8 +26,8 @@ module _ {A : Type 0} (ts : List Test) (rest : Outcome A) {r : Check} (says : ch
   checked-refused {f} is = checked (Check.Refused f) is
 
 -- What a graph's sizes and an edge keep.
-abbrev pub sized : Graph → Bool
-sized g = sizesInRange (g .kind) (g .rows) (g .columns) (g .edges)
+abbrev pub sizesKept : Graph → Bool
+sizesKept g = sizesInRange (g .kind) (g .rows) (g .columns) (g .edges)
 
 abbrev pub endsKept : Graph → ℕ → Bool
 endsKept g e = endsInRange (g .kind) (g .rows) (g .columns) (rowAt g e) (columnAt g e)
@@ -61,18 +49,18 @@ module _ {A : Type 0} (g : Graph) (o : Outcome A) where
   abbrev fromEnds : List Test
   fromEnds = each Ends (g .edges) (endsKept g) ∷ fromWeight
 
-  pub sizes-refused : sized g ≡ false → refuses Sizes 0 ≡ passing (graphTests g) o
-  sizes-refused s = sym (once-refuses Sizes (sized g) fromEnds o s)
+  pub sizes-refused : sizesKept g ≡ false → refuses Sizes 0 ≡ passing (graphTests g) o
+  sizes-refused s = sym (once-refuses Sizes (sizesKept g) fromEnds o s)
 
-  module _ (s : sized g ≡ true) where
+  module _ (s : sizesKept g ≡ true) where
     pub ends-refused : (e : ℕ) → lowest (g .edges) (endsKept g) ≡ some e → refuses Ends (suc e) ≡ passing (graphTests g) o
     ends-refused e t =
-        sym (once-passes Sizes (sized g) fromEnds o s ∙ passing-found (each Ends (g .edges) (endsKept g)) fromWeight o e t)
+        sym (once-passes Sizes (sizesKept g) fromEnds o s ∙ passing-found (each Ends (g .edges) (endsKept g)) fromWeight o e t)
 
     module _ (t : lowest (g .edges) (endsKept g) ≡ none) where
       to-weight : passing (graphTests g) o ≡ passing fromWeight o
       to-weight =
-          once-passes Sizes (sized g) fromEnds o s ∙ passing-none (each Ends (g .edges) (endsKept g)) fromWeight o t
+          once-passes Sizes (sizesKept g) fromEnds o s ∙ passing-none (each Ends (g .edges) (endsKept g)) fromWeight o t
 
       pub weight-refused : (e : ℕ) → lowest (g .edges) (weightKept g) ≡ some e → refuses Weight (suc e) ≡ passing (graphTests g) o
       weight-refused e u = sym (to-weight ∙ passing-found (each Weight (g .edges) (weightKept g)) fromEqual o e u)
@@ -86,18 +74,3 @@ module _ {A : Type 0} (g : Graph) (o : Outcome A) where
 
         pub none-refused : lowest (g .edges) (newEnds g) ≡ none → o ≡ passing (graphTests g) o
         none-refused v = sym (to-equal ∙ passing-none (each SameEnds (g .edges) (newEnds g)) [] o v)
-
-  -- Where something is yielded, no test refuses.
-  pub record AllKept : Type 0 where
-    pub sizes : sized g ≡ true
-    pub ends : lowest (g .edges) (endsKept g) ≡ none
-    pub weights : lowest (g .edges) (weightKept g) ≡ none
-    pub new : lowest (g .edges) (newEnds g) ≡ none
-
-  pub all-kept : (a : A) → passing (graphTests g) o ≡ yields a → AllKept
-  all-kept a e =
-      let s = once-yields Sizes (sized g) fromEnds o a e in
-      let t = passing-yields (each Ends (g .edges) (endsKept g)) fromWeight o a (s .1) in
-      let u = passing-yields (each Weight (g .edges) (weightKept g)) fromEqual o a (t .1) in
-      let v = passing-yields (each SameEnds (g .edges) (newEnds g)) [] o a (u .1) in
-      record { sizes = s .0; ends = t .0; weights = u .0; new = v .0 }

@@ -1,19 +1,34 @@
-// The tests that calls make on the numbers of a graph, on bounds and on a subgraph.
+// The tests that calls make on the numbers of a graph, on bounds, on a subgraph and on prices.
 use graph::Fault;
+use graph::GREATEST_BOUND;
+use graph::GREATEST_PRICE;
+use graph::GREATEST_WEIGHT;
 use graph::Kind;
+use graph::LEAST_WEIGHT;
+use graph::MOST_EDGES;
+use graph::MOST_SIDE;
+use graph::MOST_VERTICES;
 use graph::Refusal;
-ghost use Prim.Native.Nat.{ℕ, suc, _+_, _-_, _≤_, _<_};
+use graph::Shape;
+ghost use Prim.Native.Nat.{ℕ, suc, _+_, _-_, _^_, _≤_, _<_};
 ghost use mathlib.Core.Path.{_≡_};
-ghost use mathlib.Core.Bool.{not};
+ghost use mathlib.Core.Bool.{not, _&&_};
+ghost use mathlib.Core.List.{[], _++_};
 ghost use lib.Dec.{leb, eqb};
 ghost use lib.IntN.{pos};
 ghost use lib.ListN.{length, getD, set};
 ghost use lib.Signed.{leZ};
+ghost use Rattle.integers.specs.Integer.{between};
+ghost use Rattle.graph.specs.Limits.{mostVertices};
 ghost use Rattle.graph.specs.Refusal.{yields, refuses, lowest, passing};
-ghost use Rattle.graph.specs.Graph.{verticesOf, columnVertex, upTo, sizesInRange, endsInRange, weightInRange, boundInRange, priceInRange, joined};
+ghost use Rattle.graph.specs.Graph.{graphOf, verticesIn, shapeInRange, columnVertex, upTo, endsInRange, weightInRange, boundInRange, priceInRange};
 ghost use Rattle.graph.specs.Subgraph.{degree};
 ghost use Rattle.graph.specs.Tests.{graphTests};
-ghost use Rattle.checks.specs.Checks.{lowestSays, checkSays, graphOf, unweighted, endsOf, Flagged, flagAt, Countable, Grown};
+ghost use Rattle.graph.specs.Passed.{Sound, MarksHold};
+ghost use Rattle.checks.specs.Checks.{lowestSays, checkSays, Flagged, flagAt, tableFlags, joinedIn, Grown};
+
+// The flags of the table of ends: one for each row and column.
+pub const TABLE_FLAGS: usize = MOST_VERTICES * MOST_VERTICES;
 
 // The lowest item that breaks a test, or that there is none.
 pub enum Lowest {
@@ -27,13 +42,42 @@ pub enum Check {
     Refused(Refusal),
 }
 
-// n, the number of vertices.
-pub fn vertex_count(kind: Kind, rows: u32, columns: u32) -> u64
-    ensures { λ r. ⌜ r ≡ verticesOf kind rows columns ⌝ }
+// The two ends of an edge, as vertices.
+pub struct Ends {
+    pub first: usize,
+    pub second: usize,
+}
+
+// Whether two tests hold that have both been made.
+pub fn both(a: bool, b: bool) -> bool
+    ensures { λ r. ⌜ r ≡ (a && b) ⌝ }
 {
+    if a { b } else { false }
+}
+
+// A refusal at a place.
+pub fn refused(fault: Fault, place: u64) -> Check
+    ensures { λ r. ⌜ r ≡ Check.Refused (record { fault = fault; place = place }) ⌝ }
+{
+    Check::Refused(Refusal { fault, place })
+}
+
+// The refusal of item k, whose place counts from 1.
+pub fn refused_item(fault: Fault, k: usize) -> Check
+    requires { ⌜ k < 2 ^ 40 ⌝ }
+    ensures { λ r. ⌜ checkSays r ≡ refuses fault (suc k) ⌝ }
+{
+    refused(fault, k as u64 + 1)
+}
+
+// n, the number of vertices.
+pub fn vertex_count(s: Shape) -> u64
+    ensures { λ r. ⌜ r ≡ verticesIn s ⌝ }
+{
+    let kind = s.kind;
     match kind {
-        Kind::Bipartite => rows as u64 + columns as u64,
-        Kind::General => rows as u64,
+        Kind::Bipartite => s.rows as u64 + s.columns as u64,
+        Kind::General => s.rows as u64,
     }
 }
 
@@ -45,69 +89,63 @@ fn up_to(n: u32, x: u32) -> bool
 }
 
 // Whether the sizes are in range.
-pub fn sizes_in_range(kind: Kind, rows: u32, columns: u32, edges: u32) -> bool
-    ensures { λ r. ⌜ r ≡ sizesInRange kind rows columns edges ⌝ }
+pub fn sizes_in_range(s: Shape) -> bool
+    ensures { λ r. ⌜ r ≡ shapeInRange s ⌝ }
 {
+    let kind = s.kind;
+    let few = s.edges <= MOST_EDGES as u32;
     match kind {
-        Kind::Bipartite => up_to(64, rows) && (up_to(64, columns) && edges <= 1024),
-        Kind::General => up_to(128, rows) && (columns == rows && edges <= 1024),
+        Kind::Bipartite => both(
+            both(up_to(MOST_SIDE, s.rows), up_to(MOST_SIDE, s.columns)),
+            few,
+        ),
+        Kind::General => both(
+            both(up_to(MOST_VERTICES as u32, s.rows), s.columns == s.rows),
+            few,
+        ),
     }
 }
 
 // Whether an edge's ends are in range and on the right side.
-pub fn ends_in_range(kind: Kind, rows: u32, columns: u32, r: u32, c: u32) -> bool
-    ensures { λ b. ⌜ b ≡ endsInRange kind rows columns r c ⌝ }
+pub fn ends_in_range(s: Shape, r: u32, c: u32) -> bool
+    ensures { λ b. ⌜ b ≡ endsInRange (s .kind) (s .rows) (s .columns) r c ⌝ }
 {
+    let inside = both(up_to(s.rows, r), up_to(s.columns, c));
+    let kind = s.kind;
     match kind {
-        Kind::Bipartite => up_to(rows, r) && up_to(columns, c),
-        Kind::General => up_to(rows, r) && (up_to(columns, c) && c < r),
+        Kind::Bipartite => inside,
+        Kind::General => both(inside, c < r),
     }
 }
 
 pub fn weight_in_range(x: i32) -> bool
     ensures { λ r. ⌜ r ≡ weightInRange x ⌝ }
 {
-    integers::in_range(x, -1000000, 1000000)
+    integers::in_range(x, LEAST_WEIGHT, GREATEST_WEIGHT)
 }
 
 pub fn bound_in_range(x: i32) -> bool
     ensures { λ r. ⌜ r ≡ boundInRange x ⌝ }
 {
-    integers::in_range(x, 0, 64)
+    integers::in_range(x, 0, GREATEST_BOUND)
 }
 
 pub fn price_in_range(x: i32) -> bool
     ensures { λ r. ⌜ r ≡ priceInRange x ⌝ }
 {
-    integers::in_range(x, 0, 2000000)
+    integers::in_range(x, 0, GREATEST_PRICE)
 }
 
-// The lowest edge whose ends are out of range.
-fn lowest_ends(kind: Kind, rows: u32, columns: u32, row: &[u32], column: &[u32]) -> Lowest
-    requires { ⌜ length (now row) ≡ length (now column) ⌝ }
-    ensures { λ r. ⌜ lowestSays r ≡ lowest (length (now (row .entry))) (λ e. endsInRange kind rows columns (getD (now (row .entry)) e 0) (getD (now (column .entry)) e 0)) ⌝ }
+// The lowest number that is not from low to high.
+fn lowest_outside(values: &[i32], low: i32, high: i32) -> Lowest
+    ensures { λ r. ⌜ lowestSays r ≡ lowest (length (now (values .entry))) (λ k. between low high (getD (now (values .entry)) k (pos 0))) ⌝ }
 {
-    let mut e = 0;
-    while e < row.len() {
-        if ends_in_range(kind, rows, columns, row[e], column[e]) {
-            e += 1;
+    let mut k = 0;
+    while k < values.len() {
+        if integers::in_range(values[k], low, high) {
+            k += 1;
         } else {
-            return Lowest::At(e);
-        }
-    }
-    Lowest::Nothing
-}
-
-// The lowest edge whose weight is out of range.
-fn lowest_weight(weight: &[i32]) -> Lowest
-    ensures { λ r. ⌜ lowestSays r ≡ lowest (length (now (weight .entry))) (λ e. weightInRange (getD (now (weight .entry)) e (pos 0))) ⌝ }
-{
-    let mut e = 0;
-    while e < weight.len() {
-        if weight_in_range(weight[e]) {
-            e += 1;
-        } else {
-            return Lowest::At(e);
+            return Lowest::At(k);
         }
     }
     Lowest::Nothing
@@ -117,13 +155,21 @@ fn lowest_weight(weight: &[i32]) -> Lowest
 pub fn lowest_bound(bound: &[i32]) -> Lowest
     ensures { λ r. ⌜ lowestSays r ≡ lowest (length (now (bound .entry))) (λ v. boundInRange (getD (now (bound .entry)) v (pos 0))) ⌝ }
 {
-    let mut v = 0;
-    while v < bound.len() {
-        if bound_in_range(bound[v]) {
-            v += 1;
-        } else {
-            return Lowest::At(v);
-        }
+    lowest_outside(bound, 0, GREATEST_BOUND)
+}
+
+// The lowest price that is out of range, by its position in the prices of vertices, then of edges, then of odd sets.
+pub fn lowest_price(vertex_price: &[i32], edge_price: &[i32], set_price: &[i32]) -> Lowest
+    ensures { λ r. ⌜ lowestSays r ≡ lowest (length (now («vertex_price» .entry) ++ (now («edge_price» .entry) ++ now («set_price» .entry)))) (λ k. priceInRange (getD (now («vertex_price» .entry) ++ (now («edge_price» .entry) ++ now («set_price» .entry))) k (pos 0))) ⌝ }
+{
+    if let Lowest::At(k) = lowest_outside(vertex_price, 0, GREATEST_PRICE) {
+        return Lowest::At(k);
+    }
+    if let Lowest::At(k) = lowest_outside(edge_price, 0, GREATEST_PRICE) {
+        return Lowest::At(vertex_price.len() + k);
+    }
+    if let Lowest::At(k) = lowest_outside(set_price, 0, GREATEST_PRICE) {
+        return Lowest::At(vertex_price.len() + edge_price.len() + k);
     }
     Lowest::Nothing
 }
@@ -143,14 +189,30 @@ pub fn lowest_mark(chosen: &[u8]) -> Lowest
     Lowest::Nothing
 }
 
+// The lowest edge whose ends are out of range.
+fn lowest_ends(s: Shape, row: &[u32], column: &[u32]) -> Lowest
+    requires { ⌜ length (now row) ≡ length (now column) ⌝ }
+    ensures { λ r. ⌜ lowestSays r ≡ lowest (length (now (row .entry))) (λ e. endsInRange (s .kind) (s .rows) (s .columns) (getD (now (row .entry)) e 0) (getD (now (column .entry)) e 0)) ⌝ }
+{
+    let mut e = 0;
+    while e < row.len() {
+        if ends_in_range(s, row[e], column[e]) {
+            e += 1;
+        } else {
+            return Lowest::At(e);
+        }
+    }
+    Lowest::Nothing
+}
+
 // Notes an edge's ends in the table of ends, and answers whether they were there before.
 pub fn note(flags: &mut [u8], r: u32, c: u32) -> bool
-    requires { ⌜ length (now flags) ≡ 16384 ⌝ }
+    requires { ⌜ length (now flags) ≡ tableFlags ⌝ }
     requires { ⌜ Flagged r × Flagged c ⌝ }
     ensures { λ b. ⌜ b ≡ eqb (getD (now (flags .entry)) (flagAt r c) 0) 1 ⌝ }
     ensures { λ b. ⌜ now (flags .exit) ≡ set (now (flags .entry)) (flagAt r c) 1 ⌝ }
 {
-    let at = ((r - 1) * 128 + (c - 1)) as usize;
+    let at = ((r - 1) * MOST_VERTICES as u32 + (c - 1)) as usize;
     let before = flags[at];
     flags[at] = 1;
     before == 1
@@ -160,9 +222,9 @@ pub fn note(flags: &mut [u8], r: u32, c: u32) -> bool
 fn lowest_repeat(row: &[u32], column: &[u32]) -> Lowest
     requires { ⌜ length (now row) ≡ length (now column) ⌝ }
     requires { ⌜ ((e : ℕ) → e < length (now row) → Flagged (getD (now row) e 0) × Flagged (getD (now column) e 0)) ⌝ }
-    ensures { λ r. ⌜ lowestSays r ≡ lowest (length (now (row .entry))) (λ e. not (joined (endsOf (now (row .entry)) (now (column .entry))) e (getD (now (row .entry)) e 0) (getD (now (column .entry)) e 0))) ⌝ }
+    ensures { λ r. ⌜ lowestSays r ≡ lowest (length (now (row .entry))) (λ e. not (joinedIn (now (row .entry)) (now (column .entry)) e (getD (now (row .entry)) e 0) (getD (now (column .entry)) e 0))) ⌝ }
 {
-    let mut flags = [0u8; 16384];
+    let mut flags = [0u8; TABLE_FLAGS];
     let mut e = 0;
     while e < row.len() {
         if note(&mut flags, row[e], column[e]) {
@@ -173,109 +235,80 @@ fn lowest_repeat(row: &[u32], column: &[u32]) -> Lowest
     Lowest::Nothing
 }
 
-// The refusal of item e, whose place counts from 1.
-fn refused(fault: Fault, e: usize) -> Check
-    requires { ⌜ e < 1024 ⌝ }
-    ensures { λ r. ⌜ checkSays r ≡ refuses fault (suc e) ⌝ }
-{
-    Check::Refused(Refusal {
-        fault,
-        place: e as u64 + 1,
-    })
-}
-
 // The tests on a graph's numbers, in their order: sizes, ends, weights, equal ends.
-pub fn check_graph(
-    kind: Kind,
-    rows: u32,
-    columns: u32,
-    edges: u32,
-    row: &[u32],
-    column: &[u32],
-    weight: &[i32],
-) -> Check
-    requires { ⌜ (length (now row) ≡ edges) × (length (now column) ≡ edges) × (length (now weight) ≡ edges) ⌝ }
-    ensures { λ r. ⌜ checkSays r ≡ passing (graphTests (graphOf kind rows columns edges (now (row .entry)) (now (column .entry)) (now (weight .entry)))) (yields tt) ⌝ }
+pub fn check_graph(s: Shape, row: &[u32], column: &[u32], weight: &[i32]) -> Check
+    requires { ⌜ (length (now row) ≡ s .edges) × (length (now column) ≡ s .edges) × (length (now weight) ≡ s .edges) ⌝ }
+    ensures { λ r. ⌜ checkSays r ≡ passing (graphTests (graphOf s (now (row .entry)) (now (column .entry)) (now (weight .entry)))) (yields tt) ⌝ }
 {
-    if sizes_in_range(kind, rows, columns, edges) {
-        if let Lowest::At(e) = lowest_ends(kind, rows, columns, row, column) {
-            return refused(Fault::Ends, e);
+    if sizes_in_range(s) {
+        if let Lowest::At(e) = lowest_ends(s, row, column) {
+            return refused_item(Fault::Ends, e);
         }
-        if let Lowest::At(e) = lowest_weight(weight) {
-            return refused(Fault::Weight, e);
+        if let Lowest::At(e) = lowest_outside(weight, LEAST_WEIGHT, GREATEST_WEIGHT) {
+            return refused_item(Fault::Weight, e);
         }
         if let Lowest::At(e) = lowest_repeat(row, column) {
-            return refused(Fault::SameEnds, e);
+            return refused_item(Fault::SameEnds, e);
         }
         Check::Passed
     } else {
-        Check::Refused(Refusal {
-            fault: Fault::Sizes,
-            place: 0,
-        })
+        refused(Fault::Sizes, 0)
     }
 }
 
-// The vertex of a row.
-pub fn first_end(r: u32) -> usize
-    requires { ⌜ 1 ≤ r ⌝ }
-    ensures { λ v. ⌜ v ≡ r - 1 ⌝ }
-{
-    (r - 1) as usize
-}
-
 // The vertex of a column.
-pub fn second_end(kind: Kind, rows: u32, c: u32) -> usize
+fn column_vertex(s: Shape, c: u32) -> usize
     requires { ⌜ 1 ≤ c ⌝ }
-    ensures { λ v. ⌜ v ≡ columnVertex kind rows c ⌝ }
+    ensures { λ v. ⌜ v ≡ columnVertex (s .kind) (s .rows) c ⌝ }
 {
+    let kind = s.kind;
     match kind {
-        Kind::Bipartite => rows as usize + (c - 1) as usize,
+        Kind::Bipartite => s.rows as usize + (c - 1) as usize,
         Kind::General => (c - 1) as usize,
     }
 }
 
-// Adds an edge's mark to the degrees of its two ends.
-fn add_edge(degree: &mut [u32], first: usize, second: usize, mark: u8)
-    requires { ⌜ (length (now degree) ≡ 128) × (first < 128) × (second < 128) ⌝ }
-    requires { ⌜ ((v : ℕ) → v < 128 → getD (now degree) v 0 ≤ 65536) ⌝ }
-    ensures { λ _. ⌜ Grown (now (degree .entry)) (now (degree .exit)) first second mark ⌝ }
+// The ends of an edge in row r and column c.
+pub fn ends_of(s: Shape, r: u32, c: u32) -> Ends
+    requires { ⌜ (1 ≤ r) × (1 ≤ c) ⌝ }
+    ensures { λ e. ⌜ (e .first ≡ r - 1) × (e .second ≡ columnVertex (s .kind) (s .rows) c) ⌝ }
 {
+    Ends {
+        first: (r - 1) as usize,
+        second: column_vertex(s, c),
+    }
+}
+
+// Adds an edge's mark to the degrees of its two ends.
+fn add_edge(degree: &mut [u32], ends: Ends, mark: u8)
+    requires { ⌜ (length (now degree) ≡ mostVertices) × (ends .first < mostVertices) × (ends .second < mostVertices) ⌝ }
+    requires { ⌜ ((v : ℕ) → v < mostVertices → getD (now degree) v 0 ≤ 65536) ⌝ }
+    ensures { λ _. ⌜ Grown (now (degree .entry)) (now (degree .exit)) (ends .first) (ends .second) mark ⌝ }
+{
+    let first = ends.first;
+    let second = ends.second;
     degree[first] += mark as u32;
     degree[second] += mark as u32;
 }
 
 // The degree of every vertex, in one pass over the edges.
-pub fn degrees(
-    kind: Kind,
-    rows: u32,
-    columns: u32,
-    row: &[u32],
-    column: &[u32],
-    chosen: &[u8],
-) -> [u32; 128]
-    requires { ⌜ Countable (unweighted kind rows columns (now row) (now column)) ⌝ }
-    requires { ⌜ (length (now column) ≡ length (now row)) × (length (now chosen) ≡ length (now row)) ⌝ }
-    requires { ⌜ ((e : ℕ) → e < length (now chosen) → getD (now chosen) e 0 ≤ 1) ⌝ }
-    ensures { λ r. ⌜ ((v : ℕ) → v < 128 → getD r v 0 ≡ degree (unweighted kind rows columns (now (row .entry)) (now (column .entry))) (now (chosen .entry)) v) ⌝ }
+pub fn degrees(s: Shape, row: &[u32], column: &[u32], chosen: &[u8]) -> [u32; MOST_VERTICES]
+    requires { ⌜ Sound s (now row) (now column) ⌝ }
+    requires { ⌜ MarksHold (s .edges) (now chosen) ⌝ }
+    ensures { λ r. ⌜ ((v : ℕ) → v < mostVertices → getD r v 0 ≡ degree (graphOf s (now (row .entry)) (now (column .entry)) []) (now (chosen .entry)) v) ⌝ }
 {
-    let mut degree = [0u32; 128];
+    let mut degree = [0u32; MOST_VERTICES];
     let mut e = 0;
     while e < row.len() {
-        add_edge(
-            &mut degree,
-            first_end(row[e]),
-            second_end(kind, rows, column[e]),
-            chosen[e],
-        );
+        add_edge(&mut degree, ends_of(s, row[e], column[e]), chosen[e]);
         e += 1;
     }
     degree
 }
 
 // The lowest vertex whose degree is over its bound.
-pub fn lowest_over(degree: [u32; 128], bound: &[i32]) -> Lowest
-    requires { ⌜ length (now bound) ≤ 128 ⌝ }
+pub fn lowest_over(degree: [u32; MOST_VERTICES], bound: &[i32]) -> Lowest
+    requires { ⌜ length (now bound) ≤ mostVertices ⌝ }
     ensures { λ r. ⌜ lowestSays r ≡ lowest (length (now (bound .entry))) (λ v. leZ (pos (getD degree v 0)) (getD (now (bound .entry)) v (pos 0))) ⌝ }
 {
     let mut v = 0;

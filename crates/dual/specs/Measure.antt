@@ -6,6 +6,7 @@ use lib.Dec.{ltb, eqb}
 use lib.IntN.{ℤ, pos}
 use lib.ListN.{length, getD}
 use Rattle.graph.specs.declared.Fault.the-variants.{LentLength, Price, OddSet, Uncovered}
+use Rattle.graph.specs.Limits.{mostSets, vertexWords, edgeWords}
 use Rattle.graph.specs.Refusal.{Outcome, yields, refuses, Test, once, each, passing}
 use Rattle.graph.specs.Graph.{Graph, vertices, priceInRange}
 use Rattle.graph.specs.Subgraph.{weightOf}
@@ -34,7 +35,7 @@ abbrev pub measureLengths : Graph → List ℤ → List ℕ → Prices → Bool
 measureLengths g bound x P =
     graphLengths g && eqb (length bound) (vertices g) && eqb (length x) (g .edges)
     && eqb (length (P .vertex)) (vertices g) && eqb (length (P .edge)) (g .edges) && eqb (length (P .set)) (P .sets)
-    && eqb (length (P .setVertices)) (2 * P .sets) && eqb (length (P .setEdges)) (16 * P .sets)
+    && eqb (length (P .setVertices)) (vertexWords * P .sets) && eqb (length (P .setEdges)) (edgeWords * P .sets)
 
 -- Each price in range (13).
 abbrev pub priceTest : Prices → Test
@@ -42,7 +43,7 @@ priceTest P = each Price (length (allPrices P)) (λ k. priceInRange (getD (allPr
 
 -- Each odd set keeps the rules, and there are at most 16 (14): a 17th is refused at place 17.
 abbrev pub setTest : Graph → List ℤ → Prices → Test
-setTest g bound P = each OddSet (min (P .sets) 17) (λ s. ltb s 16 && keepsRules g bound P s)
+setTest g bound P = each OddSet (min (P .sets) (mostSets + 1)) (λ s. ltb s mostSets && keepsRules g bound P s)
 
 -- Each edge is covered (15).
 abbrev pub coverTest : Graph → Prices → Test

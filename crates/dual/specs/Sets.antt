@@ -6,22 +6,24 @@ use lib.Dec.{eqb}
 use lib.IntN.{ℤ}
 use Rattle.integers.specs.Integer.{up}
 use Rattle.integers.specs.Sum.{sum}
+use Rattle.graph.specs.Limits.{mostVertices, mostEdges}
 use Rattle.graph.specs.Graph.{Graph, vertices, firstEnd, secondEnd, boundAt, some?, every}
 use Rattle.dual.specs.Prices.{Prices, inside, marked, one}
 
 -- Bits above n or m are 0.
 abbrev pub nothingAbove : Graph → Prices → ℕ → Bool
 nothingAbove g P s =
-    every (128 - vertices g) (λ k. not (inside P s (vertices g + k))) && every (1024 - g .edges) (λ k. not (marked P s (g .edges + k)))
+    every (mostVertices - vertices g) (λ k. not (inside P s (vertices g + k))) && every (mostEdges - g .edges) (λ k. not (marked P s (g .edges + k)))
 
 -- At least one vertex.
 abbrev pub hasVertex : Graph → Prices → ℕ → Bool
 hasVertex g P s = some? (vertices g) (inside P s)
 
--- A marked edge has exactly one end inside.
+-- How many ends of edge e are inside.
 abbrev pub endsInside : Graph → Prices → ℕ → ℕ → ℕ
 endsInside g P s e = one (inside P s (firstEnd g e)) + one (inside P s (secondEnd g e))
 
+-- A marked edge has exactly one end inside.
 abbrev pub oneEndInside : Graph → Prices → ℕ → Bool
 oneEndInside g P s = every (g .edges) (λ e. not (marked P s e) || eqb (endsInside g P s e) 1)
 

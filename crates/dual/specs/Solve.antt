@@ -5,8 +5,10 @@ use mathlib.Core.Bool.{Bool, _&&_}
 use mathlib.Core.List.{List, [], _∷_, _++_}
 use lib.Dec.{eqb}
 use lib.IntN.{ℤ, pos}
-use lib.ListN.{length}
+use lib.ListN.{length, replicate}
 use lib.Signed.{_≤ℤ_}
+use Rattle.graph.specs.Limits.{workspaceNumbers, greatestSolverPrice}
+use Rattle.graph.specs.declared.Fault.{Fault}
 use Rattle.graph.specs.declared.Fault.the-variants.{LentLength}
 use Rattle.graph.specs.Refusal.{Outcome, yields, refuses, once, passing}
 use Rattle.graph.specs.Graph.{Graph, vertices, weightAt}
@@ -17,17 +19,21 @@ use Rattle.dual.specs.declared.SolveAnswer.the-variants as SolveAnswer
 use Rattle.dual.specs.Prices.{Prices, vertexPrice, edgePrice}
 use Rattle.dual.specs.Gap.{coverOf, gapOf}
 
--- The lengths of what is lent to the solver (9): bounds, and outputs for marks, vertex prices, edge prices and the workspace (scratch).
+-- The lengths of the outputs that are lent to the solver: marks, vertex prices, edge prices and the workspace (scratch).
 pub record Lent : Type 0 where
   pub chosen : ℕ
   pub vertexPrices : ℕ
   pub edgePrices : ℕ
   pub workspace : ℕ
 
+abbrev pub lentOf : ℕ → ℕ → ℕ → ℕ → Lent
+lentOf chosen vertex edge workspace = record { chosen = chosen; vertexPrices = vertex; edgePrices = edge; workspace = workspace }
+
+-- What is lent has just the lengths that the numbers of vertices and of edges give, and the workspace its own (9).
 abbrev pub solveLengths : Graph → List ℤ → Lent → Bool
 solveLengths g bound lent =
     graphLengths g && eqb (length bound) (vertices g) && eqb (lent .chosen) (g .edges)
-    && eqb (lent .vertexPrices) (vertices g) && eqb (lent .edgePrices) (g .edges) && eqb (lent .workspace) 4096
+    && eqb (lent .vertexPrices) (vertices g) && eqb (lent .edgePrices) (g .edges) && eqb (lent .workspace) workspaceNumbers
 
 -- When the solver refuses. It accepts a graph with its bounds where none of these tests refuses.
 unfoldable pub solve : Graph → List ℤ → Lent → Outcome (Unit {0})
@@ -45,7 +51,7 @@ withoutSets vertex edge = record { vertex = vertex; edge = edge; sets = 0; set =
 -- A price of the solver's is from 0 to 1,000,000.
 pub record SolverPrice (z : ℤ) : Type 0 where
   pub least : pos 0 ≤ℤ z
-  pub greatest : z ≤ℤ pos 1000000
+  pub greatest : z ≤ℤ pos greatestSolverPrice
 
 -- What holds of the solver's answer, whose subgraph and prices are its own choice: the subgraph is optimal, the prices are in range and cover
 -- every edge, and the gap is 0.
@@ -55,3 +61,18 @@ pub record Solved (g : Graph) (bound : List ℤ) (x : List ℕ) (vertex edge : L
   pub edgeRange : (e : ℕ) → e < g .edges → SolverPrice (edgePrice (withoutSets vertex edge) e)
   pub covering : (e : ℕ) → e < g .edges → weightAt g e ≤ℤ coverOf g (withoutSets vertex edge) e
   pub noGap : gapOf g bound x (withoutSets vertex edge) ≡ pos 0
+
+-- Every mark and price is 0.
+pub record Zero (lent : Lent) (x : List ℕ) (vertex edge : List ℤ) : Type 0 where
+  pub marks : x ≡ replicate (lent .chosen) 0
+  pub vertices : vertex ≡ replicate (lent .vertexPrices) (pos 0)
+  pub edges : edge ≡ replicate (lent .edgePrices) (pos 0)
+
+-- What the solver leaves: where it accepts the graph, a solution, and where it refuses only zeros; and the workspace holds zeros. All is as long as before.
+pub record Left (g : Graph) (bound : List ℤ) (lent : Lent) (x : List ℕ) (vertex edge workspace : List ℤ) : Type 0 where
+  pub solved : solve g bound lent ≡ yields tt → Solved g bound x vertex edge
+  pub refused : (fault : Fault) (place : ℕ) → solve g bound lent ≡ refuses fault place → Zero lent x vertex edge
+  pub cleared : workspace ≡ replicate (lent .workspace) (pos 0)
+  pub chosenLong : length x ≡ lent .chosen
+  pub vertexLong : length vertex ≡ lent .vertexPrices
+  pub edgeLong : length edge ≡ lent .edgePrices

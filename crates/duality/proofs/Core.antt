@@ -1,4 +1,5 @@
--- Weak duality over functions: for any weights, bounds, capacities and prices the gap is the sum of the four slacks, and what each slack needs to be at least 0.
+-- Weak duality over functions: for any weights, bounds, capacities and prices the gap is the sum of the four slacks, and what each slack needs to be
+-- at least 0.
 use Prim.Native.Nat.{ℕ, zero, suc, _+_, _*_, _-_, _≤_, _<_}
 use mathlib.Core.Path.{_≡_, refl, sym, ap, ap₂, _∙_, subst}
 use mathlib.Core.Bool.{Bool, true, false, _&&_, _||_}
@@ -10,7 +11,8 @@ use Rattle.integers.specs.Integer.{up, dn}
 use Rattle.integers.specs.Sum.{sum, sumℤ, is}
 use Rattle.integers.proofs.Order.{up-add, up-diff, order, nonneg, times-nonneg, zero-times, one-times}
 use Rattle.integers.proofs.Diff.{diff-self, diff-add, diff-sub, diff-times, diff-eq, times-add}
-use Rattle.integers.proofs.Sum.{sum-mono, sum-add, sum-cong, sum-scale, sumℤ-cong, sumℤ-add, sumℤ-diff, sumℤ-scale, sumℤ-swap, sumℤ-at, sumℤ-none, sumℤ-nonneg, sumℤ-pos}
+use Rattle.integers.proofs.Sum.{sum-mono, sum-add, sum-cong, sum-scale, sumℤ-cong, sumℤ-add, sumℤ-diff, sumℤ-scale, sumℤ-swap, sumℤ-at, sumℤ-none}
+use Rattle.integers.proofs.Sum.{sumℤ-nonneg, sumℤ-pos}
 use Rattle.dual.specs.Prices.{one}
 
 -- ---- products
@@ -103,35 +105,35 @@ pub record Program : Type 0 where
   pub setPrice : ℕ → ℤ
   pub edgePrice : ℕ → ℤ
 
-abbrev pub degree : Program → (ℕ → ℕ) → ℕ → ℕ
-degree D x v = sum (D .edges) (λ e. x e * ends (D .first) (D .second) v e)
+abbrev pub degreeIn : Program → (ℕ → ℕ) → ℕ → ℕ
+degreeIn D x v = sum (D .edges) (λ e. x e * ends (D .first) (D .second) v e)
 
-abbrev pub chosenCovered : Program → (ℕ → ℕ) → ℕ → ℕ
-chosenCovered D x s = sum (D .edges) (λ e. x e * D .covers s e)
+abbrev pub chosenCoveredIn : Program → (ℕ → ℕ) → ℕ → ℕ
+chosenCoveredIn D x s = sum (D .edges) (λ e. x e * D .covers s e)
 
-abbrev pub weightOf : Program → (ℕ → ℕ) → ℤ
-weightOf D x = sumℤ (D .edges) (λ e. pos (x e) *ℤ D .weight e)
+abbrev pub weightOfIn : Program → (ℕ → ℕ) → ℤ
+weightOfIn D x = sumℤ (D .edges) (λ e. pos (x e) *ℤ D .weight e)
 
-abbrev pub coverOf : Program → ℕ → ℤ
-coverOf D e =
+abbrev pub coverOfIn : Program → ℕ → ℤ
+coverOfIn D e =
     D .vertexPrice (D .first e) +ℤ D .vertexPrice (D .second e) +ℤ D .edgePrice e
     +ℤ sumℤ (D .sets) (λ s. pos (D .covers s e) *ℤ D .setPrice s)
 
-abbrev pub totalOf : Program → ℤ
-totalOf D =
+abbrev pub totalOfIn : Program → ℤ
+totalOfIn D =
     sumℤ (D .vertices) (λ v. D .bound v *ℤ D .vertexPrice v) +ℤ sumℤ (D .sets) (λ s. D .capacity s *ℤ D .setPrice s) +ℤ sumℤ (D .edges) (D .edgePrice)
 
-abbrev pub vertexSlack : Program → (ℕ → ℕ) → ℤ
-vertexSlack D x = sumℤ (D .vertices) (λ v. D .vertexPrice v *ℤ (D .bound v -ℤ pos (degree D x v)))
+abbrev pub vertexSlackIn : Program → (ℕ → ℕ) → ℤ
+vertexSlackIn D x = sumℤ (D .vertices) (λ v. D .vertexPrice v *ℤ (D .bound v -ℤ pos (degreeIn D x v)))
 
-abbrev pub setSlack : Program → (ℕ → ℕ) → ℤ
-setSlack D x = sumℤ (D .sets) (λ s. D .setPrice s *ℤ (D .capacity s -ℤ pos (chosenCovered D x s)))
+abbrev pub setSlackIn : Program → (ℕ → ℕ) → ℤ
+setSlackIn D x = sumℤ (D .sets) (λ s. D .setPrice s *ℤ (D .capacity s -ℤ pos (chosenCoveredIn D x s)))
 
-abbrev pub edgeSlack : Program → (ℕ → ℕ) → ℤ
-edgeSlack D x = sumℤ (D .edges) (λ e. pos (1 - x e) *ℤ D .edgePrice e)
+abbrev pub edgeSlackIn : Program → (ℕ → ℕ) → ℤ
+edgeSlackIn D x = sumℤ (D .edges) (λ e. pos (1 - x e) *ℤ D .edgePrice e)
 
-abbrev pub coverSlack : Program → (ℕ → ℕ) → ℤ
-coverSlack D x = sumℤ (D .edges) (λ e. pos (x e) *ℤ (coverOf D e -ℤ D .weight e))
+abbrev pub coverSlackIn : Program → (ℕ → ℕ) → ℤ
+coverSlackIn D x = sumℤ (D .edges) (λ e. pos (x e) *ℤ (coverOfIn D e -ℤ D .weight e))
 
 -- An edge that is not chosen, or chosen.
 unchosen : (k : ℕ) (z : ℤ) → k ≤ 1 → pos (1 - k) *ℤ z ≡ z -ℤ pos k *ℤ z
@@ -152,32 +154,33 @@ edgesPaid D x = sumℤ (D .edges) (λ e. pos (x e) *ℤ D .edgePrice e)
 -- The gap is the sum of the four slacks.
 module _ (D : Program) (firstIn : (e : ℕ) → e < D .edges → D .first e < D .vertices) (secondIn : (e : ℕ) → e < D .edges → D .second e < D .vertices)
     (x : ℕ → ℕ) (marks : (e : ℕ) → e < D .edges → x e ≤ 1) where
-  of-vertices : vertexSlack D x ≡ sumℤ (D .vertices) (λ v. D .bound v *ℤ D .vertexPrice v) -ℤ endsPaid D x
+  of-vertices : vertexSlackIn D x ≡ sumℤ (D .vertices) (λ v. D .bound v *ℤ D .vertexPrice v) -ℤ endsPaid D x
   of-vertices =
       slack (D .vertices) (D .edges) (ends (D .first) (D .second)) x (D .vertexPrice) (D .bound)
       ∙ ap (λ z. sumℤ (D .vertices) (λ v. D .bound v *ℤ D .vertexPrice v) -ℤ z)
       (by-ends (D .vertices) (D .edges) (D .first) (D .second) firstIn secondIn x (D .vertexPrice))
 
-  of-edges : edgeSlack D x ≡ sumℤ (D .edges) (D .edgePrice) -ℤ edgesPaid D x
+  of-edges : edgeSlackIn D x ≡ sumℤ (D .edges) (D .edgePrice) -ℤ edgesPaid D x
   of-edges =
       sumℤ-cong (D .edges) _ _ (λ e l. unchosen (x e) (D .edgePrice e) (marks e l))
       ∙ sumℤ-diff (D .edges) (D .edgePrice) (λ e. pos (x e) *ℤ D .edgePrice e)
 
-  of-cover : coverSlack D x ≡ (endsPaid D x +ℤ edgesPaid D x +ℤ setsPaid D x) -ℤ weightOf D x
+  of-cover : coverSlackIn D x ≡ (endsPaid D x +ℤ edgesPaid D x +ℤ setsPaid D x) -ℤ weightOfIn D x
   of-cover =
-      sumℤ-cong (D .edges) _ _ (λ e l. times-diff (pos (x e)) (coverOf D e) (D .weight e) ∙ ap (λ z. z -ℤ pos (x e) *ℤ D .weight e) (parts e))
+      sumℤ-cong (D .edges) _ _ (λ e l. times-diff (pos (x e)) (coverOfIn D e) (D .weight e) ∙ ap (λ z. z -ℤ pos (x e) *ℤ D .weight e) (parts e))
       ∙ sumℤ-diff (D .edges) _ _
-      ∙ ap (λ z. z -ℤ weightOf D x) (sumℤ-add (D .edges) _ _ ∙ ap (λ z. z +ℤ setsPaid D x) (sumℤ-add (D .edges) _ _))
+      ∙ ap (λ z. z -ℤ weightOfIn D x) (sumℤ-add (D .edges) _ _ ∙ ap (λ z. z +ℤ setsPaid D x) (sumℤ-add (D .edges) _ _))
     where
-      parts : (e : ℕ) → pos (x e) *ℤ coverOf D e
+      parts : (e : ℕ) → pos (x e) *ℤ coverOfIn D e
           ≡ pos (x e) *ℤ (D .vertexPrice (D .first e) +ℤ D .vertexPrice (D .second e)) +ℤ pos (x e) *ℤ D .edgePrice e
           +ℤ pos (x e) *ℤ sumℤ (D .sets) (λ s. pos (D .covers s e) *ℤ D .setPrice s)
       parts e =
-          times-add (pos (x e)) (D .vertexPrice (D .first e) +ℤ D .vertexPrice (D .second e) +ℤ D .edgePrice e) (sumℤ (D .sets) (λ s. pos (D .covers s e) *ℤ D .setPrice s))
+          times-add (pos (x e)) (D .vertexPrice (D .first e) +ℤ D .vertexPrice (D .second e) +ℤ D .edgePrice e)
+          (sumℤ (D .sets) (λ s. pos (D .covers s e) *ℤ D .setPrice s))
           ∙ ap (λ z. z +ℤ pos (x e) *ℤ sumℤ (D .sets) (λ s. pos (D .covers s e) *ℤ D .setPrice s))
           (times-add (pos (x e)) (D .vertexPrice (D .first e) +ℤ D .vertexPrice (D .second e)) (D .edgePrice e))
 
-  pub slacks-add : totalOf D -ℤ weightOf D x ≡ vertexSlack D x +ℤ setSlack D x +ℤ edgeSlack D x +ℤ coverSlack D x
+  pub slacks-add : totalOfIn D -ℤ weightOfIn D x ≡ vertexSlackIn D x +ℤ setSlackIn D x +ℤ edgeSlackIn D x +ℤ coverSlackIn D x
   slacks-add =
       cancel
       (sumℤ (D .vertices) (λ v. D .bound v *ℤ D .vertexPrice v))
@@ -186,7 +189,7 @@ module _ (D : Program) (firstIn : (e : ℕ) → e < D .edges → D .first e < D 
       (endsPaid D x)
       (setsPaid D x)
       (edgesPaid D x)
-      (weightOf D x)
+      (weightOfIn D x)
       ∙ sym (ap₂ _+ℤ_ (ap₂ _+ℤ_ (ap₂ _+ℤ_ of-vertices (slack (D .sets) (D .edges) (D .covers) x (D .setPrice) (D .capacity))) of-edges) of-cover)
     where
       cancel : (a b c h s f w : ℤ) → (a +ℤ b +ℤ c) -ℤ w ≡ (a -ℤ h) +ℤ (b -ℤ s) +ℤ (c -ℤ f) +ℤ ((h +ℤ f +ℤ s) -ℤ w)
@@ -199,10 +202,10 @@ module _ (D : Program) (firstIn : (e : ℕ) → e < D .edges → D .first e < D 
           (omega arith)
 
   -- Complementary slackness: where no item has slack, there is no gap.
-  pub complementary : ((v : ℕ) → v < D .vertices → D .vertexPrice v *ℤ (D .bound v -ℤ pos (degree D x v)) ≡ pos 0) →
-      ((s : ℕ) → s < D .sets → D .setPrice s *ℤ (D .capacity s -ℤ pos (chosenCovered D x s)) ≡ pos 0) →
+  pub complementary : ((v : ℕ) → v < D .vertices → D .vertexPrice v *ℤ (D .bound v -ℤ pos (degreeIn D x v)) ≡ pos 0) →
+      ((s : ℕ) → s < D .sets → D .setPrice s *ℤ (D .capacity s -ℤ pos (chosenCoveredIn D x s)) ≡ pos 0) →
       ((e : ℕ) → e < D .edges → pos (1 - x e) *ℤ D .edgePrice e ≡ pos 0) →
-      ((e : ℕ) → e < D .edges → pos (x e) *ℤ (coverOf D e -ℤ D .weight e) ≡ pos 0) → totalOf D -ℤ weightOf D x ≡ pos 0
+      ((e : ℕ) → e < D .edges → pos (x e) *ℤ (coverOfIn D e -ℤ D .weight e) ≡ pos 0) → totalOfIn D -ℤ weightOfIn D x ≡ pos 0
   complementary v s e c =
       slacks-add
       ∙ ap₂ _+ℤ_
@@ -212,17 +215,17 @@ module _ (D : Program) (firstIn : (e : ℕ) → e < D .edges → D .first e < D 
 -- ---- each slack is at least 0
 
 pub vertex-slack-nonneg : (D : Program) (x : ℕ → ℕ) →
-    ((v : ℕ) → v < D .vertices → pos 0 ≤ℤ D .vertexPrice v) → ((v : ℕ) → v < D .vertices → pos (degree D x v) ≤ℤ D .bound v) → pos 0 ≤ℤ vertexSlack D x
+    ((v : ℕ) → v < D .vertices → pos 0 ≤ℤ D .vertexPrice v) → ((v : ℕ) → v < D .vertices → pos (degreeIn D x v) ≤ℤ D .bound v) → pos 0 ≤ℤ vertexSlackIn D x
 vertex-slack-nonneg D x prices within = sumℤ-nonneg (D .vertices) _ (λ v l. both-nonneg (prices v l) (diff-nonneg (within v l)))
 
 pub set-slack-nonneg : (D : Program) (x : ℕ → ℕ) →
-    ((s : ℕ) → s < D .sets → pos 0 ≤ℤ D .setPrice s) → ((s : ℕ) → s < D .sets → pos (chosenCovered D x s) ≤ℤ D .capacity s) → pos 0 ≤ℤ setSlack D x
+    ((s : ℕ) → s < D .sets → pos 0 ≤ℤ D .setPrice s) → ((s : ℕ) → s < D .sets → pos (chosenCoveredIn D x s) ≤ℤ D .capacity s) → pos 0 ≤ℤ setSlackIn D x
 set-slack-nonneg D x prices within = sumℤ-nonneg (D .sets) _ (λ s l. both-nonneg (prices s l) (diff-nonneg (within s l)))
 
-pub edge-slack-nonneg : (D : Program) (x : ℕ → ℕ) → ((e : ℕ) → e < D .edges → pos 0 ≤ℤ D .edgePrice e) → pos 0 ≤ℤ edgeSlack D x
+pub edge-slack-nonneg : (D : Program) (x : ℕ → ℕ) → ((e : ℕ) → e < D .edges → pos 0 ≤ℤ D .edgePrice e) → pos 0 ≤ℤ edgeSlackIn D x
 edge-slack-nonneg D x prices = sumℤ-nonneg (D .edges) _ (λ e l. times-nonneg (1 - x e) (prices e l))
 
-pub cover-slack-nonneg : (D : Program) (x : ℕ → ℕ) → ((e : ℕ) → e < D .edges → D .weight e ≤ℤ coverOf D e) → pos 0 ≤ℤ coverSlack D x
+pub cover-slack-nonneg : (D : Program) (x : ℕ → ℕ) → ((e : ℕ) → e < D .edges → D .weight e ≤ℤ coverOfIn D e) → pos 0 ≤ℤ coverSlackIn D x
 cover-slack-nonneg D x covering = sumℤ-nonneg (D .edges) _ (λ e l. times-nonneg (x e) (diff-nonneg (covering e l)))
 
 -- ---- weak duality
@@ -232,18 +235,18 @@ pub record Primal (D : Program) (x : ℕ → ℕ) : Type 0 where
   pub firstIn : (e : ℕ) → e < D .edges → D .first e < D .vertices
   pub secondIn : (e : ℕ) → e < D .edges → D .second e < D .vertices
   pub marks : (e : ℕ) → e < D .edges → x e ≤ 1
-  pub degrees : (v : ℕ) → v < D .vertices → pos (degree D x v) ≤ℤ D .bound v
-  pub sets : (s : ℕ) → s < D .sets → pos (chosenCovered D x s) ≤ℤ D .capacity s
+  pub degrees : (v : ℕ) → v < D .vertices → pos (degreeIn D x v) ≤ℤ D .bound v
+  pub sets : (s : ℕ) → s < D .sets → pos (chosenCoveredIn D x s) ≤ℤ D .capacity s
 
 -- The prices are not below 0 and cover every edge.
 pub record Dual (D : Program) : Type 0 where
   pub vertexPrices : (v : ℕ) → v < D .vertices → pos 0 ≤ℤ D .vertexPrice v
   pub setPrices : (s : ℕ) → s < D .sets → pos 0 ≤ℤ D .setPrice s
   pub edgePrices : (e : ℕ) → e < D .edges → pos 0 ≤ℤ D .edgePrice e
-  pub covering : (e : ℕ) → e < D .edges → D .weight e ≤ℤ coverOf D e
+  pub covering : (e : ℕ) → e < D .edges → D .weight e ≤ℤ coverOfIn D e
 
 -- Then the weight is at most the total.
-pub weight-total : {D : Program} {x : ℕ → ℕ} → Primal D x → Dual D → weightOf D x ≤ℤ totalOf D
+pub weight-total : {D : Program} {x : ℕ → ℕ} → Primal D x → Dual D → weightOfIn D x ≤ℤ totalOfIn D
 weight-total {D} {x} p d =
     go
     (slacks-add D (p .firstIn) (p .secondIn) x (p .marks))
@@ -299,5 +302,6 @@ module _ (n m : ℕ) (first second : ℕ → ℕ) (firstIn : (e : ℕ) → e < m
         split,
         sum-mono m (λ e. x e * one (marked e)) (λ e. one (marked e)) (λ e l. at-most (x e) (one (marked e)) (marks e l)),
         handshake n m first second firstIn secondIn x (λ v. one (inside v)),
-        sum-mono n (λ v. one (inside v) * sum m (λ e. x e * ends first second v e)) (λ v. one (inside v) * bound v) (λ v l. mul-le-mul-left (one (inside v)) (within v l)),
+        sum-mono n (λ v. one (inside v) * sum m (λ e. x e * ends first second v e)) (λ v. one (inside v) * bound v)
+            (λ v l. mul-le-mul-left (one (inside v)) (within v l)),
       )

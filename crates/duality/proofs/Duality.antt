@@ -13,7 +13,7 @@ use Rattle.graph.specs.Subgraph.{Feasible, Optimal, markAt, degree, weightOf, l
 use Rattle.dual.specs.Prices.{Prices, vertexPrice, edgePrice, setPrice, inside, marked, one}
 use Rattle.dual.specs.Sets.{keepsRules, covers, capacity}
 use Rattle.dual.specs.Gap.{coverOf, totalOf, gapOf, vertexSlack, setSlack, edgeSlack, coverSlack, chosenCovered}
-use Rattle.duality.specs.Conditions.{Ends, DualFeasible}
+use Rattle.duality.proofs.Conditions.{Incident, DualFeasible}
 use Rattle.duality.proofs.Passed.{one-end}
 use Rattle.duality.proofs.Core as core
 use Rattle.duality.proofs.Core.{Program, covered-load}
@@ -37,12 +37,12 @@ program g bound P = record {
 }
 
 -- The gap is the sum of the slacks of vertices, odd sets, edges and cover, for any prices and bounds at all.
-pub slacks-add : {g : Graph} → Ends g → (bound : List ℤ) (x : List ℕ) (P : Prices) → ((e : ℕ) → e < g .edges → markAt x e ≤ 1) →
+pub slacks-add : {g : Graph} → Incident g → (bound : List ℤ) (x : List ℕ) (P : Prices) → ((e : ℕ) → e < g .edges → markAt x e ≤ 1) →
     gapOf g bound x P ≡ vertexSlack g bound x P +ℤ setSlack g bound x P +ℤ edgeSlack g x P +ℤ coverSlack g x P
 slacks-add {g} E bound x P marks = core.slacks-add (program g bound P) (E .first) (E .second) (markAt x) marks
 
 -- Complementary slackness: where no vertex, odd set, edge or cover has slack, there is no gap.
-pub complementary : {g : Graph} → Ends g → (bound : List ℤ) (x : List ℕ) (P : Prices) → ((e : ℕ) → e < g .edges → markAt x e ≤ 1) →
+pub complementary : {g : Graph} → Incident g → (bound : List ℤ) (x : List ℕ) (P : Prices) → ((e : ℕ) → e < g .edges → markAt x e ≤ 1) →
     ((v : ℕ) → v < vertices g → vertexPrice P v *ℤ (boundAt bound v -ℤ pos (degree g x v)) ≡ pos 0) →
     ((s : ℕ) → s < P .sets → setPrice P s *ℤ (pos (capacity g bound P s) -ℤ pos (chosenCovered g x P s)) ≡ pos 0) →
     ((e : ℕ) → e < g .edges → pos (1 - markAt x e) *ℤ edgePrice P e ≡ pos 0) →
@@ -50,7 +50,7 @@ pub complementary : {g : Graph} → Ends g → (bound : List ℤ) (x : List ℕ)
 complementary {g} E bound x P marks = core.complementary (program g bound P) (E .first) (E .second) (markAt x) marks
 
 -- No feasible subgraph chooses more than an odd set's capacity of the edges that it covers.
-pub within-capacity : {g : Graph} {bound : List ℤ} {x : List ℕ} → Ends g → Feasible g bound x → (P : Prices) (s : ℕ) → keepsRules g bound P s ≡ true →
+pub within-capacity : {g : Graph} {bound : List ℤ} {x : List ℕ} → Incident g → Feasible g bound x → (P : Prices) (s : ℕ) → keepsRules g bound P s ≡ true →
     chosenCovered g x P s ≤ capacity g bound P s
 within-capacity {g} {bound} {x} E F P s k =
     omega (
@@ -64,10 +64,10 @@ module _ {g : Graph} {bound : List ℤ} {x : List ℕ} {P : Prices} (F : Feasibl
   pub vertex-slack-nonneg : pos 0 ≤ℤ vertexSlack g bound x P
   vertex-slack-nonneg = core.vertex-slack-nonneg (program g bound P) (markAt x) (D .vertexPrices) (F .within)
 
-  set-within : Ends g → (s : ℕ) → s < P .sets → pos (chosenCovered g x P s) ≤ℤ pos (capacity g bound P s)
+  set-within : Incident g → (s : ℕ) → s < P .sets → pos (chosenCovered g x P s) ≤ℤ pos (capacity g bound P s)
   set-within E s l = omega (order, within-capacity E F P s (D .rules s l))
 
-  pub set-slack-nonneg : Ends g → pos 0 ≤ℤ setSlack g bound x P
+  pub set-slack-nonneg : Incident g → pos 0 ≤ℤ setSlack g bound x P
   set-slack-nonneg E = core.set-slack-nonneg (program g bound P) (markAt x) (D .setPrices) (set-within E)
 
   pub edge-slack-nonneg : pos 0 ≤ℤ edgeSlack g x P
@@ -77,20 +77,21 @@ module _ {g : Graph} {bound : List ℤ} {x : List ℕ} {P : Prices} (F : Feasibl
   cover-slack-nonneg = core.cover-slack-nonneg (program g bound P) (markAt x) (D .covering)
 
   -- Its weight is at most the prices' total.
-  pub weight-total : Ends g → weightOf g x ≤ℤ totalOf g bound P
+  pub weight-total : Incident g → weightOf g x ≤ℤ totalOf g bound P
   weight-total E =
       core.weight-total {D = program g bound P}
       (record { firstIn = E .first; secondIn = E .second; marks = F .marks; degrees = F .within; sets = set-within E })
       (record { vertexPrices = D .vertexPrices; setPrices = D .setPrices; edgePrices = D .edgePrices; covering = D .covering })
 
 -- What any subgraph lacks against a feasible one is at most its gap.
-pub gap-bound : {g : Graph} {bound : List ℤ} {P : Prices} {y : List ℕ} → Ends g → DualFeasible g bound P → Feasible g bound y → (x : List ℕ) →
+pub gap-bound : {g : Graph} {bound : List ℤ} {P : Prices} {y : List ℕ} → Incident g → DualFeasible g bound P → Feasible g bound y → (x : List ℕ) →
     lacks g y x ≤ℤ gapOf g bound x P
 gap-bound {g} {bound} {P} {y} E D F x =
     omega (order, weight-total F D E, up-diff (weightOf g y) (weightOf g x), up-diff (totalOf g bound P) (weightOf g x))
 
 -- A feasible subgraph with no gap is optimal.
-pub no-gap : {g : Graph} {bound : List ℤ} {P : Prices} {x : List ℕ} → Ends g → DualFeasible g bound P → Feasible g bound x → gapOf g bound x P ≡ pos 0 → Optimal g bound x
+pub no-gap : {g : Graph} {bound : List ℤ} {P : Prices} {x : List ℕ} → Incident g → DualFeasible g bound P → Feasible g bound x →
+    gapOf g bound x P ≡ pos 0 → Optimal g bound x
 no-gap {g} {bound} {P} {x} E D F none = record {
   feasible = F;
   most = λ y G. omega (order, ap up none, ap dn none, weight-total G D E, up-diff (totalOf g bound P) (weightOf g x));

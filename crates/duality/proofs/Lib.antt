@@ -1,3 +1,4 @@
+pub mod Conditions
 -- The theorems of duality, over functions and over the definitions.
 pub mod Core
 pub mod Passed

@@ -15,10 +15,11 @@ use Rattle.dual.specs.Prices.{Prices}
 use Rattle.dual.specs.Gap.{totalOf, gapOf}
 use Rattle.dual.specs.Measure.{measure, measures}
 use Rattle.dual.specs.Solve.{Lent, solve, Solved, SolverPrice, withoutSets}
-use Rattle.duality.specs.Conditions.{Ends, DualFeasible}
+use Rattle.duality.proofs.Conditions.{Incident, DualFeasible}
 use Rattle.duality.specs.Meaning.{Meaning, Certified}
-use Rattle.duality.proofs.Passed.{PriceRange, Priced, priced-dual, measure-passed, measure-takes, solve-passed}
-use Rattle.duality.proofs.Duality.{slacks-add, within-capacity, vertex-slack-nonneg, set-slack-nonneg, edge-slack-nonneg, cover-slack-nonneg, gap-bound, no-gap}
+use Rattle.duality.proofs.Passed.{passed-incident, PriceRange, Priced, priced-dual, measure-passed, measure-takes, solve-passed}
+use Rattle.duality.proofs.Duality.{slacks-add, within-capacity, vertex-slack-nonneg, set-slack-nonneg, edge-slack-nonneg, cover-slack-nonneg}
+use Rattle.duality.proofs.Duality.{gap-bound, no-gap}
 
 -- ---- differences
 
@@ -37,7 +38,7 @@ zero-diff a b e = omega (order, ap up e, ap dn e, up-diff a b)
 pub measured : {g : Graph} {bound : List ℤ} {x : List ℕ} {P : Prices} {M : Measures} → measure g bound x P ≡ yields M → Meaning g bound x P M
 measured {g} {bound} {x} {P} {M} e =
     let p = measure-passed e in
-    let E : Ends g = p .sound .ends in
+    let E : Incident g = passed-incident (p .passed) in
     let F : Feasible g bound x = p .feasible in
     let D : DualFeasible g bound P = priced-dual (p .priced) in
     subst (Meaning g bound x P) (sym (p .numbers))
@@ -57,7 +58,7 @@ measured {g} {bound} {x} {P} {M} e =
 pub no-gap-optimal : {g : Graph} {bound : List ℤ} {x : List ℕ} (P : Prices) {M : Measures} → measure g bound x P ≡ yields M → M .gap ≡ pos 0 → Optimal g bound x
 no-gap-optimal P e none =
     let p = measure-passed e in
-    no-gap (p .sound .ends) (priced-dual (p .priced)) (p .feasible) (ap (λ (N : Measures). N .gap) (sym (p .numbers)) ∙ none)
+    no-gap (passed-incident (p .passed)) (priced-dual (p .priced)) (p .feasible) (ap (λ (N : Measures). N .gap) (sym (p .numbers)) ∙ none)
 
 -- ---- the solver's prices
 
@@ -82,8 +83,9 @@ pub certified : {g : Graph} {bound : List ℤ} (lent : Lent) {x : List ℕ} {ver
     length vertex ≡ vertices g → length edge ≡ g .edges → Solved g bound x vertex edge → (y : List ℕ) → Feasible g bound y → Certified g bound x vertex edge y
 certified {g} {bound} lent {x} {vertex} {edge} e vertexLong edgeLong S y F =
     let a = solve-passed g bound lent e in
-    let taken = measure-takes (a .sound) (a .bounded) F (solved-priced vertexLong edgeLong S) in
-    let exact : gapOf g bound y (withoutSets vertex edge) ≡ lacks g x y = same-total (totalOf g bound (withoutSets vertex edge)) (weightOf g x) (weightOf g y) (S .noGap) in
+    let taken = measure-takes (a .passed) (a .bounded) F (solved-priced vertexLong edgeLong S) in
+    let exact : gapOf g bound y (withoutSets vertex edge)
+    ≡ lacks g x y = same-total (totalOf g bound (withoutSets vertex edge)) (weightOf g x) (weightOf g y) (S .noGap) in
     record {
       numbers = measures g bound y (withoutSets vertex edge);
       measured = taken;

@@ -1,13 +1,12 @@
 -- What a call's tests have shown once they have passed, test by test.
 use Prim.Native.Nat.{ℕ, _+_, _*_, _-_, _≤_, _<_}
 use mathlib.Core.Path.{_≡_, refl, sym, ap, _∙_, subst}
-use mathlib.Core.Logic.{_≢_}
 use mathlib.Core.Bool.{true, not, _||_, true≢false}
 use mathlib.Core.List.{List, [], _∷_, _++_}
 use native.Mathlib.Omega.{arith}
 use native.Mathlib.Decide.{decLt}
 use lib.Dec.{leb, ltb, eqb}
-use lib.IntN.{ℤ, pos, negsuc}
+use lib.IntN.{ℤ, pos}
 use lib.ListN.{length, getD, length-append, List·getD-append}
 use lib.Seq.{getD-append-add}
 use lib.Signed.{_≤ℤ_}
@@ -16,89 +15,42 @@ use Rattle.integers.proofs.Order.{leZ-true, le-leZ, between-true, le-between}
 use Rattle.graph.specs.declared.Kind.{Kind}
 use Rattle.graph.specs.declared.Kind.the-variants.{Bipartite, General}
 use Rattle.graph.specs.declared.Fault.the-variants.{LentLength}
+use Rattle.graph.specs.Limits.{greatestPrice, vertexWords, edgeWords, workspaceNumbers}
 use Rattle.graph.specs.Refusal.{yields, once}
-use Rattle.graph.specs.Graph.{Graph, vertices, columnVertex, rowAt, columnAt, weightAt, firstEnd, secondEnd, boundAt, upTo, sizesInRange, priceInRange}
+use Rattle.graph.specs.Graph.{Graph, vertices, columnVertex, columnAt, weightAt, firstEnd, secondEnd, boundAt, upTo, sizesInRange, priceInRange}
 use Rattle.graph.specs.Subgraph.{Feasible, markAt, degree}
 use Rattle.graph.specs.Tests.{graphLengths, graphTests, boundTest, kindTest, isBipartite, markTest, degreeTest}
 use Rattle.graph.proofs.Passing.{every-true, Passes, passes, pass, passes-split, passes-join}
-use Rattle.graph.proofs.Ranges.{both, _also_, held, UpTo, up-to-true, EndsHold, sizes-hold, ends-hold}
+use Rattle.graph.specs.Passed.{Passed, Bounded}
+use Rattle.graph.proofs.Ranges.{both, _also_, held, up-to-true}
+use Rattle.graph.proofs.Passed.{graph-passed, passed-lengths, passed-tests, bounds-passed, bounds-test}
 use Rattle.dual.specs.declared.Measures.{Measures}
 use Rattle.dual.specs.Prices.{Prices, vertexPrice, edgePrice, setPrice, allPrices, marked}
 use Rattle.dual.specs.Sets.{nothingAbove, hasVertex, endsInside, oneEndInside, isOdd, keepsRules}
 use Rattle.dual.specs.Gap.{coverOf}
 use Rattle.dual.specs.Measure.{measure, measures, measureLengths, measureTests, priceTest, setTest, coverTest}
 use Rattle.dual.specs.Solve.{Lent, solve, solveLengths}
-use Rattle.duality.specs.Conditions.{Ends, DualFeasible}
+use Rattle.duality.proofs.Conditions.{Incident, DualFeasible}
 
 -- ---- odd sets
 
 -- A marked edge has just one end inside.
-pub one-end : (g : Graph) (bound : List ℤ) (P : Prices) (s : ℕ) → keepsRules g bound P s ≡ true → (e : ℕ) → e < g .edges → marked P s e ≡ true → endsInside g P s e ≡ 1
+pub one-end : (g : Graph) (bound : List ℤ) (P : Prices) (s : ℕ) → keepsRules g bound P s ≡ true → (e : ℕ) → e < g .edges → marked P s e ≡ true →
+    endsInside g P s e ≡ 1
 one-end g bound P s k e l m =
     eqb-true (endsInside g P s e) 1
     (ap (λ b. not b || eqb (endsInside g P s e) 1) (sym m)
     ∙ every-true (g .edges) (λ d. not (marked P s d) || eqb (endsInside g P s d) 1)
     (held (nothingAbove g P s) (hasVertex g P s ∷ oneEndInside g P s ∷ isOdd g bound P s ∷ []) k .1 .1 .0) e l)
 
--- ---- the graph
+-- ---- graph, subgraph
 
--- The tests of a graph's lengths and numbers pass, and what they show.
-pub record Sound (g : Graph) : Type 0 where
-  pub lengths : graphLengths g ≡ true
-  pub passed : Passes (graphTests g)
-  pub rowLong : length (g .row) ≡ g .edges
-  pub columnLong : length (g .column) ≡ g .edges
-  pub weightLong : length (g .weight) ≡ g .edges
-  pub someRow : 1 ≤ g .rows
-  pub someColumn : 1 ≤ g .columns
-  pub fewVertices : vertices g ≤ 128
-  pub fewEdges : g .edges ≤ 1024
-  pub rowRange : (e : ℕ) → e < g .edges → UpTo (g .rows) (rowAt g e)
-  pub columnRange : (e : ℕ) → e < g .edges → UpTo (g .columns) (columnAt g e)
-  pub ends : Ends g
-  pub apart : (e : ℕ) → e < g .edges → firstEnd g e ≢ secondEnd g e
-  pub weightRange : (e : ℕ) → e < g .edges → (negsuc 999999 ≤ℤ weightAt g e) × (weightAt g e ≤ℤ pos 1000000)
+-- The ends of a graph that has passed are vertices.
+pub passed-incident : {g : Graph} → Passed g → Incident g
+passed-incident P = record { first = λ e l. P .sound .ends e l .first; second = λ e l. P .sound .ends e l .second }
 
-pub graph-passed : (g : Graph) → graphLengths g ≡ true → Passes (graphTests g) → Sound g
-graph-passed g lengths p =
-    let h = held (eqb (length (g .row)) (g .edges)) (eqb (length (g .column)) (g .edges) ∷ eqb (length (g .weight)) (g .edges) ∷ []) lengths in
-    let sizes = sizes-hold (g .kind) (g .rows) (g .columns) (g .edges) (p .0 0 (omega arith)) in
-    record {
-      lengths = lengths;
-      passed = p;
-      rowLong = eqb-true (length (g .row)) (g .edges) (h .0);
-      columnLong = eqb-true (length (g .column)) (g .edges) (h .1 .0);
-      weightLong = eqb-true (length (g .weight)) (g .edges) (h .1 .1 .0);
-      someRow = sizes .rows .least;
-      someColumn = sizes .columns .least;
-      fewVertices = sizes .order;
-      fewEdges = sizes .few;
-      rowRange = λ e l. at e l .row;
-      columnRange = λ e l. at e l .column;
-      ends = record { first = λ e l. at e l .first; second = λ e l. at e l .second };
-      apart = λ e l. at e l .apart;
-      weightRange = λ e l. between-true (negsuc 999999) (pos 1000000) (weightAt g e) (p .1 .1 .0 e l);
-    }
-  where
-    at : (e : ℕ) → e < g .edges → EndsHold (g .kind) (g .rows) (g .columns) (rowAt g e) (columnAt g e)
-    at e l = ends-hold (g .kind) (g .rows) (g .columns) (rowAt g e) (columnAt g e) (p .1 .0 e l)
-
--- ---- bounds, subgraph
-
--- The tests of the bounds pass, and what they show.
-pub record Bounded (g : Graph) (bound : List ℤ) : Type 0 where
-  pub passed : Passes (boundTest g bound ∷ [])
-  pub long : length bound ≡ vertices g
-  pub range : (v : ℕ) → v < vertices g → (pos 0 ≤ℤ boundAt bound v) × (boundAt bound v ≤ℤ pos 64)
-
-pub bound-passed : (g : Graph) (bound : List ℤ) → eqb (length bound) (vertices g) ≡ true → Passes (boundTest g bound ∷ []) → Bounded g bound
-bound-passed g bound e p = record {
-  passed = p;
-  long = eqb-true (length bound) (vertices g) e;
-  range = λ v l. between-true (pos 0) (pos 64) (boundAt bound v) (p .0 v l);
-}
-
-pub subgraph-passed : (g : Graph) (bound : List ℤ) (x : List ℕ) → eqb (length x) (g .edges) ≡ true → Passes (markTest g x ∷ degreeTest g bound x ∷ []) → Feasible g bound x
+pub subgraph-passed : (g : Graph) (bound : List ℤ) (x : List ℕ) → eqb (length x) (g .edges) ≡ true →
+    Passes (markTest g x ∷ degreeTest g bound x ∷ []) → Feasible g bound x
 subgraph-passed g bound x e p = record {
   long = eqb-true (length x) (g .edges) e;
   marks = λ d l. leb-true (markAt x d) 1 (p .0 d l);
@@ -119,7 +71,8 @@ module _ (Q : ℤ → Type 0) (xs ys : List ℤ) where
   pub back : ((k : ℕ) → k < length (xs ++ ys) → Q (getD (xs ++ ys) k (pos 0))) → (k : ℕ) → k < length ys → Q (getD ys k (pos 0))
   back h k l = subst Q (getD-append-add xs ys k (pos 0)) (h (length xs + k) (omega (arith, length-append xs ys)))
 
-  pub together : ((k : ℕ) → k < length xs → Q (getD xs k (pos 0))) → ((k : ℕ) → k < length ys → Q (getD ys k (pos 0))) → (k : ℕ) → k < length (xs ++ ys) → Q (getD (xs ++ ys) k (pos 0))
+  pub together : ((k : ℕ) → k < length xs → Q (getD xs k (pos 0))) → ((k : ℕ) → k < length ys → Q (getD ys k (pos 0))) → (k : ℕ) →
+      k < length (xs ++ ys) → Q (getD (xs ++ ys) k (pos 0))
   together f b k l = elim (decLt k (length xs)) [
     | yes h ↦ subst Q (sym (List·getD-append xs ys (pos 0) k h)) (f k h)
     | no h ↦
@@ -130,15 +83,15 @@ module _ (Q : ℤ → Type 0) (xs ys : List ℤ) where
 
 -- A price is in range.
 abbrev pub PriceRange : ℤ → Type 0
-PriceRange z = (pos 0 ≤ℤ z) × (z ≤ℤ pos 2000000)
+PriceRange z = (pos 0 ≤ℤ z) × (z ≤ℤ pos greatestPrice)
 
 -- The lengths of what a price sheet lends.
 pub record PriceLengths (g : Graph) (P : Prices) : Type 0 where
   pub vertex : length (P .vertex) ≡ vertices g
   pub edge : length (P .edge) ≡ g .edges
   pub set : length (P .set) ≡ P .sets
-  pub setVertices : length (P .setVertices) ≡ 2 * P .sets
-  pub setEdges : length (P .setEdges) ≡ 16 * P .sets
+  pub setVertices : length (P .setVertices) ≡ vertexWords * P .sets
+  pub setEdges : length (P .setEdges) ≡ edgeWords * P .sets
 
 -- What the tests of the prices and the odd sets show.
 pub record Priced (g : Graph) (bound : List ℤ) (P : Prices) : Type 0 where
@@ -156,7 +109,8 @@ few-sets g bound P p = elim (decLt 16 (P .sets)) [
   | no h ↦ omega (arith, h)
 ]
 
-pub prices-passed : {g : Graph} {P : Prices} (bound : List ℤ) → PriceLengths g P → Passes (priceTest P ∷ setTest g bound P ∷ coverTest g P ∷ []) → Priced g bound P
+pub prices-passed : {g : Graph} {P : Prices} (bound : List ℤ) → PriceLengths g P → Passes (priceTest P ∷ setTest g bound P ∷ coverTest g P ∷ []) →
+    Priced g bound P
 prices-passed {g} {P} bound lengths p =
     let later = back PriceRange (P .vertex) (P .edge ++ P .set) ranged in
     let few = few-sets g bound P (p .1 .0, tt) in
@@ -171,7 +125,7 @@ prices-passed {g} {P} bound lengths p =
     }
   where
     ranged : (k : ℕ) → k < length (allPrices P) → PriceRange (getD (allPrices P) k (pos 0))
-    ranged k l = between-true (pos 0) (pos 2000000) (getD (allPrices P) k (pos 0)) (p .0 k l)
+    ranged k l = between-true (pos 0) (pos greatestPrice) (getD (allPrices P) k (pos 0)) (p .0 k l)
 
 in-range : {z : ℤ} → PriceRange z → priceInRange z ≡ true
 in-range p = le-between (p .0) (p .1)
@@ -198,8 +152,8 @@ priced-dual p = record {
 
 -- What the measuring call's tests show.
 pub record MeasurePassed (g : Graph) (bound : List ℤ) (x : List ℕ) (P : Prices) (M : Measures) : Type 0 where
-  pub sound : Sound g
-  pub bounded : Bounded g bound
+  pub passed : Passed g
+  pub bounded : Bounded (vertices g) bound
   pub feasible : Feasible g bound x
   pub priced : Priced g bound P
   pub numbers : M ≡ measures g bound x P
@@ -214,51 +168,53 @@ measure-passed {g} {bound} {x} {P} {M} e =
     let lengths =
     held (graphLengths g)
     (eqb (length bound) (vertices g) ∷ eqb (length x) (g .edges) ∷ eqb (length (P .vertex)) (vertices g) ∷ eqb (length (P .edge)) (g .edges)
-    ∷ eqb (length (P .set)) (P .sets) ∷ eqb (length (P .setVertices)) (2 * P .sets) ∷ eqb (length (P .setEdges)) (16 * P .sets) ∷ [])
+    ∷ eqb (length (P .set)) (P .sets) ∷ eqb (length (P .setVertices)) (vertexWords * P .sets) ∷ eqb (length (P .setEdges)) (edgeWords * P .sets) ∷ [])
     (p .0 .0 0 (omega arith)) in
-    let later = passes-split (graphTests g) (boundTest g bound ∷ markTest g x ∷ degreeTest g bound x ∷ priceTest P ∷ setTest g bound P ∷ coverTest g P ∷ []) (p .0 .1) in
+    let later = passes-split (graphTests g)
+    (boundTest g bound ∷ markTest g x ∷ degreeTest g bound x ∷ priceTest P ∷ setTest g bound P ∷ coverTest g P ∷ []) (p .0 .1) in
     record {
-      sound = graph-passed g (lengths .0) (later .0);
-      bounded = bound-passed g bound (lengths .1 .0) (later .1 .0, tt);
+      passed = graph-passed g (lengths .0) (later .0);
+      bounded = bounds-passed g bound (eqb-true (length bound) (vertices g) (lengths .1 .0)) (later .1 .0, tt);
       feasible = subgraph-passed g bound x (lengths .1 .1 .0) (later .1 .1 .0, (later .1 .1 .1 .0, tt));
       priced = prices-passed bound (record {
         vertex = eqb-true (length (P .vertex)) (vertices g) (lengths .1 .1 .1 .0);
         edge = eqb-true (length (P .edge)) (g .edges) (lengths .1 .1 .1 .1 .0);
         set = eqb-true (length (P .set)) (P .sets) (lengths .1 .1 .1 .1 .1 .0);
-        setVertices = eqb-true (length (P .setVertices)) (2 * P .sets) (lengths .1 .1 .1 .1 .1 .1 .0);
-        setEdges = eqb-true (length (P .setEdges)) (16 * P .sets) (lengths .1 .1 .1 .1 .1 .1 .1 .0);
+        setVertices = eqb-true (length (P .setVertices)) (vertexWords * P .sets) (lengths .1 .1 .1 .1 .1 .1 .0);
+        setEdges = eqb-true (length (P .setEdges)) (edgeWords * P .sets) (lengths .1 .1 .1 .1 .1 .1 .1 .0);
       }) (later .1 .1 .1 .1);
       numbers = sym (yields-same (p .1));
     }
 
 -- The measuring call takes what passes.
-pub measure-takes : {g : Graph} {bound : List ℤ} {x : List ℕ} {P : Prices} → Sound g → Bounded g bound → Feasible g bound x → Priced g bound P →
+pub measure-takes : {g : Graph} {bound : List ℤ} {x : List ℕ} {P : Prices} → Passed g → Bounded (vertices g) bound → Feasible g bound x → Priced g bound P →
     measure g bound x P ≡ yields (measures g bound x P)
 unfolding measure
 measure-takes {g} {bound} {x} {P} S B F p =
     let subgraph = feasible-passes F in
     pass (measureTests g bound x P) (
       λ k l. long,
-      passes-join (graphTests g) (boundTest g bound ∷ markTest g x ∷ degreeTest g bound x ∷ priceTest P ∷ setTest g bound P ∷ coverTest g P ∷ []) (S .passed)
-          (B .passed .0, (subgraph .0, (subgraph .1 .0, priced-passes p))),
+      passes-join (graphTests g) (boundTest g bound ∷ markTest g x ∷ degreeTest g bound x ∷ priceTest P ∷ setTest g bound P ∷ coverTest g P ∷ [])
+          (passed-tests S)
+          (bounds-test g bound B .0, (subgraph .0, (subgraph .1 .0, priced-passes p))),
     )
     (yields (measures g bound x P))
   where
     long : measureLengths g bound x P ≡ true
     long =
-        S .lengths
+        passed-lengths S
         also eq-eqb (length bound) (vertices g) (B .long)
         also eq-eqb (length x) (g .edges) (F .long)
         also eq-eqb (length (P .vertex)) (vertices g) (p .lengths .vertex)
         also eq-eqb (length (P .edge)) (g .edges) (p .lengths .edge)
         also eq-eqb (length (P .set)) (P .sets) (p .lengths .set)
-        also eq-eqb (length (P .setVertices)) (2 * P .sets) (p .lengths .setVertices)
-        also eq-eqb (length (P .setEdges)) (16 * P .sets) (p .lengths .setEdges)
+        also eq-eqb (length (P .setVertices)) (vertexWords * P .sets) (p .lengths .setVertices)
+        also eq-eqb (length (P .setEdges)) (edgeWords * P .sets) (p .lengths .setEdges)
 
 -- What the solver's tests show.
 pub record SolvePassed (g : Graph) (bound : List ℤ) (lent : Lent) : Type 0 where
-  pub sound : Sound g
-  pub bounded : Bounded g bound
+  pub passed : Passed g
+  pub bounded : Bounded (vertices g) bound
   pub bipartite : g .kind ≡ Bipartite
   pub fewRows : g .rows ≤ 64
   pub fewColumns : g .columns ≤ 64
@@ -292,18 +248,18 @@ solve-passed g bound lent e =
     let lengths =
     held (graphLengths g)
     (eqb (length bound) (vertices g) ∷ eqb (lent .chosen) (g .edges) ∷ eqb (lent .vertexPrices) (vertices g) ∷ eqb (lent .edgePrices) (g .edges)
-    ∷ eqb (lent .workspace) 4096 ∷ [])
+    ∷ eqb (lent .workspace) workspaceNumbers ∷ [])
     (p .0 .0 0 (omega arith)) in
     let later = passes-split (graphTests g) (boundTest g bound ∷ kindTest g ∷ []) (p .0 .1) in
-    let sound = graph-passed g (lengths .0) (later .0) in
+    let passed = graph-passed g (lengths .0) (later .0) in
     let sides = bipartite-true (g .kind) (g .rows) (g .columns) (g .edges) (later .1 .1 .0 0 (omega arith)) (later .0 .0 0 (omega arith)) in
     record {
-      sound = sound;
-      bounded = bound-passed g bound (lengths .1 .0) (later .1 .0, tt);
+      passed = passed;
+      bounded = bounds-passed g bound (eqb-true (length bound) (vertices g) (lengths .1 .0)) (later .1 .0, tt);
       bipartite = sides .bipartite;
       fewRows = sides .fewRows;
       fewColumns = sides .fewColumns;
-      rowSide = λ e l. omega (arith, sound .rowRange e l);
+      rowSide = λ e l. passed .sound .ends e l .inRows;
       columnSide = λ e l. sides .columnSide (columnAt g e);
       chosenLong = eqb-true (lent .chosen) (g .edges) (lengths .1 .1 .0);
       vertexLong = eqb-true (lent .vertexPrices) (vertices g) (lengths .1 .1 .1 .0);

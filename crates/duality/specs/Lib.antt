@@ -1,3 +1,2 @@
--- What the theorems of duality ask and say.
-pub mod Conditions
+-- What the theorems of duality say.
 pub mod Meaning

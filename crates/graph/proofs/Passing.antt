@@ -25,7 +25,8 @@ pub lowest-none : (n : ℕ) (f : ℕ → Bool) → lowest n f ≡ none → (k : 
 lowest-none zero f e k l = absurd (omega arith)
 lowest-none (suc n) f e k l = go (lowest n f) (f n) refl refl e (lowest-none n f)
   where
-    go : (o : Option ℕ) (b : Bool) → lowest n f ≡ o → f n ≡ b → orElse o (cond b none (some n)) ≡ none → (lowest n f ≡ none → (j : ℕ) → j < n → f j ≡ true) → f k ≡ true
+    go : (o : Option ℕ) (b : Bool) → lowest n f ≡ o → f n ≡ b → orElse o (cond b none (some n)) ≡ none →
+        (lowest n f ≡ none → (j : ℕ) → j < n → f j ≡ true) → f k ≡ true
     go none true p q h ih = up-to {P = λ j. f j ≡ true} (ih p) q k l
     go none false p q h ih = zero-one (cc)
     go (some j) b p q h ih = zero-one (cc)
@@ -45,7 +46,8 @@ pub lowest-some : (n : ℕ) (f : ℕ → Bool) (k : ℕ) → lowest n f ≡ some
 lowest-some zero f k e = zero-one (cc)
 lowest-some (suc n) f k e = go (lowest n f) (f n) refl refl e (lowest-some n f k)
   where
-    go : (o : Option ℕ) (b : Bool) → lowest n f ≡ o → f n ≡ b → orElse o (cond b none (some n)) ≡ some k → (lowest n f ≡ some k → Lowest n f k) → Lowest (suc n) f k
+    go : (o : Option ℕ) (b : Bool) → lowest n f ≡ o → f n ≡ b → orElse o (cond b none (some n)) ≡ some k → (lowest n f ≡ some k → Lowest n f k) →
+        Lowest (suc n) f k
     go none true p q h ih = zero-one (cc)
     go none false p q h ih =
         let s : n ≡ k = cc in
@@ -57,8 +59,12 @@ lowest-some (suc n) f k e = go (lowest n f) (f n) refl refl e (lowest-some n f k
 pub some-lowest : (n : ℕ) (f : ℕ → Bool) (k : ℕ) → Lowest n f k → lowest n f ≡ some k
 some-lowest zero f k w = absurd (omega (arith, w .among))
 some-lowest (suc n) f k w = elim (ℕ-discrete n k) [
-  | yes e ↦ ap₂ orElse (none-lowest n f (λ j l. w .before j (omega (arith, e)))) (ap (λ (b : Bool). cond {A = Option ℕ} b none (some n)) (ap f e ∙ w .breaks)) ∙ ap some e
-  | no e ↦ ap (λ o. orElse o (cond (f n) none (some n))) (some-lowest n f k (record { among = omega (arith, w .among, e); breaks = w .breaks; before = w .before }))
+  | yes e ↦
+      ap₂ orElse (none-lowest n f (λ j l. w .before j (omega (arith, e))))
+      (ap (λ (b : Bool). cond {A = Option ℕ} b none (some n)) (ap f e ∙ w .breaks)) ∙ ap some e
+  | no e ↦
+      ap (λ o. orElse o (cond (f n) none (some n)))
+      (some-lowest n f k (record { among = omega (arith, w .among, e); breaks = w .breaks; before = w .before }))
 ]
 
 pub lowest-cong : (n : ℕ) (f g : ℕ → Bool) → ((k : ℕ) → k < n → f k ≡ g k) → lowest n f ≡ lowest n g
@@ -113,17 +119,20 @@ some-next n f = ap (λ k. some? k f) (add-one n)
 
 module _ {A : Type 0} where
   -- Tests that all pass, and one that refuses.
-  pub passing-yields : (t : Test) (ts : List Test) (o : Outcome A) (a : A) → passing (t ∷ ts) o ≡ yields a → (lowest (t .items) (t .keeps) ≡ none) × (passing ts o ≡ yields a)
+  pub passing-yields : (t : Test) (ts : List Test) (o : Outcome A) (a : A) → passing (t ∷ ts) o ≡ yields a →
+      (lowest (t .items) (t .keeps) ≡ none) × (passing ts o ≡ yields a)
   passing-yields t ts o a e = go (lowest (t .items) (t .keeps)) refl e
     where
-      go : (l : Option ℕ) → lowest (t .items) (t .keeps) ≡ l → found t l (passing ts o) ≡ yields a → (lowest (t .items) (t .keeps) ≡ none) × (passing ts o ≡ yields a)
+      go : (l : Option ℕ) → lowest (t .items) (t .keeps) ≡ l → found t l (passing ts o) ≡ yields a →
+          (lowest (t .items) (t .keeps) ≡ none) × (passing ts o ≡ yields a)
       go none p h = (p, h)
       go (some k) p h = zero-one (cc)
 
   pub passing-none : (t : Test) (ts : List Test) (o : Outcome A) → lowest (t .items) (t .keeps) ≡ none → passing (t ∷ ts) o ≡ passing ts o
   passing-none t ts o e = ap (λ l. found t l (passing ts o)) e
 
-  pub passing-found : (t : Test) (ts : List Test) (o : Outcome A) (k : ℕ) → lowest (t .items) (t .keeps) ≡ some k → passing (t ∷ ts) o ≡ refuses (t .fault) (t .place k)
+  pub passing-found : (t : Test) (ts : List Test) (o : Outcome A) (k : ℕ) → lowest (t .items) (t .keeps) ≡ some k →
+      passing (t ∷ ts) o ≡ refuses (t .fault) (t .place k)
   passing-found t ts o k e = ap (λ l. found t l (passing ts o)) e
 
   pub passing-append : (ts us : List Test) (o : Outcome A) → passing (ts ++ us) o ≡ passing ts (passing us o)
@@ -137,7 +146,8 @@ module _ {A : Type 0} where
   pub once-refuses : (f : Fault) (b : Bool) (ts : List Test) (o : Outcome A) → b ≡ false → passing (once f b ∷ ts) o ≡ refuses f 0
   once-refuses f b ts o e = ap (λ c. passing (once f c ∷ ts) o) e
 
-  pub once-yields : (f : Fault) (b : Bool) (ts : List Test) (o : Outcome A) (a : A) → passing (once f b ∷ ts) o ≡ yields a → (b ≡ true) × (passing ts o ≡ yields a)
+  pub once-yields : (f : Fault) (b : Bool) (ts : List Test) (o : Outcome A) (a : A) → passing (once f b ∷ ts) o ≡ yields a →
+      (b ≡ true) × (passing ts o ≡ yields a)
   once-yields f true ts o a e = (refl, e)
   once-yields f false ts o a e = zero-one (cc)
 
@@ -164,3 +174,16 @@ passes-split (t ∷ ts) us p = let r = passes-split ts us (p .1) in ((p .0, r .0
 pub passes-join : (ts us : List Test) → Passes ts → Passes us → Passes (ts ++ us)
 passes-join [] us p q = q
 passes-join (t ∷ ts) us p q = (p .0, passes-join ts us (p .1) q)
+
+-- What a call yields whose first tests have been made: their refusal, or the rest.
+abbrev pub goOn : {A : Type 0} → Outcome (Unit {0}) → Outcome A → Outcome A
+goOn (yields u) rest = rest
+goOn (refuses fault place) rest = refuses fault place
+
+pub passing-on : {A : Type 0} (ts : List Test) (rest : Outcome A) → passing ts rest ≡ goOn (passing ts (yields tt)) rest
+passing-on [] rest = refl
+passing-on (t ∷ ts) rest = go (lowest (t .items) (t .keeps)) (passing-on ts rest)
+  where
+    go : (l : Option ℕ) → passing ts rest ≡ goOn (passing ts (yields tt)) rest → found t l (passing ts rest) ≡ goOn (found t l (passing ts (yields tt))) rest
+    go none ih = ih
+    go (some k) ih = refl

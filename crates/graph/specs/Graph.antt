@@ -3,11 +3,13 @@ use Prim.Native.Nat.{ℕ, zero, suc, _+_, _-_}
 use mathlib.Core.Bool.{Bool, false, not, _&&_, _||_}
 use mathlib.Core.List.{List}
 use lib.Dec.{leb, ltb, eqb}
-use lib.IntN.{ℤ, pos, negsuc}
+use lib.IntN.{ℤ, pos, negℤ}
 use lib.ListN.{getD}
 use Rattle.integers.specs.Integer.{between}
 use Rattle.graph.specs.declared.Kind.{Kind}
 use Rattle.graph.specs.declared.Kind.the-variants.{Bipartite, General}
+use Rattle.graph.specs.declared.Shape.{Shape}
+use Rattle.graph.specs.Limits.{mostSide, mostVertices, mostEdges, greatestWeight, greatestBound, greatestPrice}
 
 -- A graph as it is read or lent: its kind, rows, columns and number of edges, and for each edge its row, column and weight as in the text.
 -- Edges and vertices count from 0 here, and rows, columns and places from 1, as in the text.
@@ -19,6 +21,21 @@ pub record Graph : Type 0 where
   pub row : List ℕ
   pub column : List ℕ
   pub weight : List ℤ
+
+-- The graph of a shape, which is its kind, rows, columns and number of edges, with these rows, columns and weights; and a graph's shape.
+abbrev pub graphOf : Shape → List ℕ → List ℕ → List ℤ → Graph
+graphOf s row column weight = record {
+  kind = s .kind;
+  rows = s .rows;
+  columns = s .columns;
+  edges = s .edges;
+  row = row;
+  column = column;
+  weight = weight;
+}
+
+abbrev pub shapeOf : Graph → Shape
+shapeOf g = record { kind = g .kind; rows = g .rows; columns = g .columns; edges = g .edges }
 
 -- n, the number of vertices: rows and columns, or rows where the graph is general.
 abbrev pub verticesOf : Kind → ℕ → ℕ → ℕ
@@ -56,8 +73,15 @@ upTo n x = leb 1 x && leb x n
 
 -- Sizes in range: 1 to 64 rows and columns, or 1 to 128 rows and as many columns, and at most 1,024 edges.
 abbrev pub sizesInRange : Kind → ℕ → ℕ → ℕ → Bool
-sizesInRange Bipartite rows columns edges = upTo 64 rows && upTo 64 columns && leb edges 1024
-sizesInRange General rows columns edges = upTo 128 rows && eqb columns rows && leb edges 1024
+sizesInRange Bipartite rows columns edges = upTo mostSide rows && upTo mostSide columns && leb edges mostEdges
+sizesInRange General rows columns edges = upTo mostVertices rows && eqb columns rows && leb edges mostEdges
+
+-- The same of a shape: its vertices, and whether its sizes are in range.
+abbrev pub verticesIn : Shape → ℕ
+verticesIn s = verticesOf (s .kind) (s .rows) (s .columns)
+
+abbrev pub shapeInRange : Shape → Bool
+shapeInRange s = sizesInRange (s .kind) (s .rows) (s .columns) (s .edges)
 
 -- Ends in range and on the right side: in a general graph the first end's number is the greater.
 abbrev pub endsInRange : Kind → ℕ → ℕ → ℕ → ℕ → Bool
@@ -66,7 +90,7 @@ endsInRange General rows columns r c = upTo rows r && upTo columns c && ltb c r
 
 -- A weight is from -1,000,000 to 1,000,000.
 abbrev pub weightInRange : ℤ → Bool
-weightInRange z = between (negsuc 999999) (pos 1000000) z
+weightInRange z = between (negℤ (pos greatestWeight)) (pos greatestWeight) z
 
 -- Edge e has row r and column c.
 abbrev pub joins : Graph → ℕ → ℕ → ℕ → Bool
@@ -87,11 +111,11 @@ joined g n r c = some? n (joins g r c)
 
 -- A bound is from 0 to 64.
 abbrev pub boundInRange : ℤ → Bool
-boundInRange z = between (pos 0) (pos 64) z
+boundInRange z = between (pos 0) (pos greatestBound) z
 
 -- A price is from 0 to 2,000,000.
 abbrev pub priceInRange : ℤ → Bool
-priceInRange z = between (pos 0) (pos 2000000) z
+priceInRange z = between (pos 0) (pos greatestPrice) z
 
 -- The bound of vertex v.
 abbrev pub boundAt : List ℤ → ℕ → ℤ

@@ -1,4 +1,6 @@
+pub mod Limits
 pub mod Refusal
 pub mod Graph
 pub mod Subgraph
 pub mod Tests
+pub mod Passed

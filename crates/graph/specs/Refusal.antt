@@ -5,7 +5,8 @@ use mathlib.Core.List.{List, [], _∷_, _++_}
 use mathlib.Core.Option.{Option, none, some}
 use lib.ListN.{length, replicate}
 use Rattle.graph.specs.declared.Fault.{Fault}
-use Rattle.graph.specs.declared.Fault.the-variants.{TextLength, Header, SizeLine, Sizes, LaterLine, Ends, Weight, SameEnds, LentLength, Bound, Mark, Degree, Price, OddSet, Uncovered, NotBipartite, Disagreement}
+use Rattle.graph.specs.declared.Fault.the-variants.{TextLength, Header, SizeLine, Sizes, LaterLine, Ends, Weight, SameEnds}
+use Rattle.graph.specs.declared.Fault.the-variants.{LentLength, Bound, Mark, Degree, Price, OddSet, Uncovered, NotBipartite, Disagreement}
 
 -- The refusal table of document 01: each fault's number.
 abbrev pub numberOf : Fault → ℕ

@@ -35,6 +35,6 @@ pub record Optimal (g : Graph) (bound : List ℤ) (x : List ℕ) : Type 0 where
   pub feasible : Feasible g bound x
   pub most : (y : List ℕ) → Feasible g bound y → weightOf g y ≤ℤ weightOf g x
 
--- What x lacks against y, an optimal subgraph: the largest weight minus its own.
+-- What x lacks against y: the weight of y minus its own. Against an optimal y it is what the plan lacks.
 abbrev pub lacks : Graph → List ℕ → List ℕ → ℤ
 lacks g y x = weightOf g y -ℤ weightOf g x

@@ -8,6 +8,45 @@ pub enum Kind {
     General,
 }
 
+// What tells a graph but for its edges: its kind, and how many rows, columns and edges it has.
+pub struct Shape {
+    pub kind: Kind,
+    pub rows: u32,
+    pub columns: u32,
+    pub edges: u32,
+}
+
+// The ranges and lengths of document 01, as specs/Limits.antt defines them.
+pub const MOST_SIDE: u32 = 64;
+
+pub const MOST_VERTICES: usize = 128;
+
+pub const MOST_EDGES: usize = 1024;
+
+pub const MOST_NUMBERS: usize = MOST_VERTICES + MOST_EDGES;
+
+pub const LEAST_WEIGHT: i32 = -1000000;
+
+pub const GREATEST_WEIGHT: i32 = 1000000;
+
+pub const GREATEST_BOUND: i32 = 64;
+
+pub const GREATEST_PRICE: i32 = 2000000;
+
+pub const MOST_SETS: usize = 16;
+
+pub const VERTEX_WORDS: usize = 2;
+
+pub const EDGE_WORDS: usize = 16;
+
+pub const LONGEST_TEXT: usize = 32768;
+
+pub const LONGEST_LINE: usize = 1024;
+
+pub const SUBGRAPH_BYTES: usize = 16384;
+
+pub const WORKSPACE_NUMBERS: usize = 4096;
+
 // What is refused, in the order of document 01's refusal table.
 pub enum Fault {
     TextLength,

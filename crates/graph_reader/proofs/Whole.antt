@@ -1,60 +1,39 @@
--- What the graph reader answers and leaves, from what its phases answer.
+-- What the graph reader answers and leaves, from its tests and from what reading the lines yields.
 use Prim.Native.Nat.{ℕ}
-use mathlib.Core.Path.{_≡_, refl, sym, ap, _∙_, subst}
-use mathlib.Core.Bool.{_&&_}
-use mathlib.Core.List.{List}
+use mathlib.Core.Path.{_≡_, sym, ap, _∙_, subst}
+use mathlib.Core.Bool.{Bool, true, _&&_}
+use mathlib.Core.List.{List, [], _∷_}
 use lib.Dec.{eqb}
 use lib.IntN.{ℤ, pos}
 use lib.ListN.{length, replicate, length-replicate}
 use borrow.Author.Tests.{eqb-true}
-use Rattle.graph.specs.declared.Kind.{Kind}
-use Rattle.graph.specs.declared.Fault.the-variants.{LentLength}
+use Rattle.graph.specs.declared.Fault.the-variants.{TextLength, Sizes, LentLength}
 use Rattle.graph.specs.declared.Refusal.{Refusal}
-use Rattle.graph.specs.Refusal.{Outcome, yields, refuses, reported, output, passing}
-use Rattle.graph.specs.Graph.{Graph}
+use Rattle.graph.specs.declared.Shape.{Shape}
+use Rattle.graph.specs.Refusal.{yields, refuses, reported, output, Test, once, passing}
+use Rattle.graph.specs.Graph.{Graph, shapeOf}
 use Rattle.graph.proofs.Passing.{once-yields}
 use Rattle.graph.proofs.Ranges.{both}
 use Rattle.layout.specs.declared.GraphAnswer.{GraphAnswer}
 use Rattle.layout.specs.declared.GraphAnswer.the-variants as GraphAnswer
+use Rattle.layout.specs.Text.{textFits}
 use Rattle.layout.specs.Lines.{readText}
 use Rattle.layout.specs.GraphText.{graphLayout, readGraph}
-use Rattle.layout.specs.Answers.{Head, headOf, graphSays}
-use Rattle.text.specs.declared.Cursor.{Cursor}
+use Rattle.layout.specs.Answers.{graphSays}
 use Rattle.checks.specs.declared.Check.{Check}
 use Rattle.checks.specs.declared.Check.the-variants as Check
 use Rattle.checks.specs.Checks.{checkSays}
 use Rattle.checks.proofs.Refusals.{checked-passed, checked-refused}
-use Rattle.phases.specs.Phase.{Reached}
-use Rattle.outputs.proofs.Filling.{holds-refused, left-yields, left-refused}
-use Rattle.graph_reader.specs.Turn.{lentTests, Cleared, Held, AfterHeaderInside, Sized, AfterSizesInside}
-use Rattle.graph_reader.specs.declared.AfterHeader.{AfterHeader}
-use Rattle.graph_reader.specs.declared.AfterHeader.the-variants as AfterHeader
-use Rattle.graph_reader.specs.declared.AfterSizes.{AfterSizes}
-use Rattle.graph_reader.specs.declared.AfterSizes.the-variants as AfterSizes
-use Rattle.graph_reader.proofs.OnLine.{lent, fromText}
-
--- What the phases' answers show.
-pub header-reached : {s : List ℕ} {a : AfterHeader} {kind : Kind} {c : Cursor} → AfterHeaderInside s a → a ≡ AfterHeader.At kind c → Reached s c
-header-reached {s} i is = subst (AfterHeaderInside s) is i
-
-pub sizes-in : {kind : Kind} {s : List ℕ} {a : AfterSizes} {rows columns edges : ℕ} {c : Cursor} → AfterSizesInside kind s a → a ≡ AfterSizes.At rows columns edges c → Sized kind s rows columns edges c
-sizes-in {kind} {s} i is = subst (AfterSizesInside kind s) is i
-
--- What a phase's refusal reports and leaves.
-pub phase-refuses : {W : Outcome Graph} {row column : List ℕ} {weight : List ℤ} {f : Refusal} → refuses (f .fault) (f .place) ≡ W → (refuses (f .fault) (f .place) ≡ reported headOf W) × Held W row column weight
-phase-refuses e = (ap (reported headOf) e, record { rows = holds-refused (sym e); columns = holds-refused (sym e); weights = holds-refused (sym e) })
-
--- What the last phase reports and leaves is that of the whole.
-pub phase-ends : {W U : Outcome Graph} {row column : List ℕ} {weight : List ℤ} {x : Outcome Head} → U ≡ W → x ≡ reported headOf U → Held U row column weight → (x ≡ reported headOf W) × Held W row column weight
-phase-ends {W} {U} {row} {column} {weight} {x} whole says holds =
-    subst (λ (w : Outcome Graph). (x ≡ reported headOf w) × Held w row column weight) whole (says, holds)
+use Rattle.lent.specs.Holding.{Holds}
+use Rattle.lent.proofs.Filling.{left-yields, left-refused}
+use Rattle.graph_reader.specs.OnLine.{Cleared, GraphReading}
 
 -- What the call answers and leaves, where its outputs have r, c and w numbers.
-pub record Answers (r c w : ℕ) (s : List ℕ) (x : Outcome Head) (row column : List ℕ) (weight : List ℤ) : Type 0 where
-  pub answer : x ≡ reported headOf (readGraph r c w s)
-  pub rows : row ≡ output r 0 (λ (g : Graph). g .row) (readGraph r c w s)
-  pub columns : column ≡ output c 0 (λ (g : Graph). g .column) (readGraph r c w s)
-  pub weights : weight ≡ output w (pos 0) (λ (g : Graph). g .weight) (readGraph r c w s)
+abbrev pub GraphAnswered : ℕ → ℕ → ℕ → List ℕ → GraphAnswer → List ℕ → List ℕ → List ℤ → Type 0
+GraphAnswered r c w s a row column weight =
+    (graphSays a ≡ reported shapeOf (readGraph r c w s))
+    × ((row ≡ output r 0 (λ (g : Graph). g .row) (readGraph r c w s))
+    × ((column ≡ output c 0 (λ (g : Graph). g .column) (readGraph r c w s)) × (weight ≡ output w (pos 0) (λ (g : Graph). g .weight) (readGraph r c w s))))
 
 -- The outputs that were cleared have the lengths that they had.
 module _ {r c w : ℕ} {row column : List ℕ} {weight : List ℤ} (C : Cleared r c w row column weight) where
@@ -67,69 +46,86 @@ module _ {r c w : ℕ} {row column : List ℕ} {weight : List ℤ} (C : Cleared 
   pub weight-kept : length weight ≡ w
   weight-kept = ap length (C .weights) ∙ length-replicate w (pos 0)
 
-  -- The tests were made on these lengths.
-  pub lent-says : (s : List ℕ) {x : Outcome (Unit {0})} → x ≡ passing (lentTests (length row) (length column) (length weight) s) (yields (tt {0})) → x ≡ passing (lentTests r c w s) (yields (tt {0}))
-  lent-says s e =
-      e
-      ∙ ap (λ k. passing (lentTests k (length column) (length weight) s) (yields (tt {0}))) row-kept
-      ∙ ap (λ k. passing (lentTests r k (length weight) s) (yields (tt {0}))) column-kept
-      ∙ ap (λ k. passing (lentTests r c k s) (yields (tt {0}))) weight-kept
+  pub cleared-again : {i j k : ℕ} → r ≡ i → c ≡ j → w ≡ k → Cleared i j k row column weight
+  cleared-again p q t = record {
+    rows = C .rows ∙ ap (λ n. replicate n 0) p;
+    columns = C .columns ∙ ap (λ n. replicate n 0) q;
+    weights = C .weights ∙ ap (λ n. replicate n (pos 0)) t;
+  }
 
-pub cleared-again : {i j k r c w : ℕ} {row column : List ℕ} {weight : List ℤ} → Cleared i j k row column weight → i ≡ r → j ≡ c → k ≡ w → Cleared r c w row column weight
-cleared-again C p q t = record {
-  rows = C .rows ∙ ap (λ n. replicate n 0) p;
-  columns = C .columns ∙ ap (λ n. replicate n 0) q;
-  weights = C .weights ∙ ap (λ n. replicate n (pos 0)) t;
-}
+  -- The lengths were tested.
+  pub lengths-right : {a b : Bool} → a ≡ (eqb (length row) 1024 && eqb (length column) 1024) → b ≡ (a && eqb (length weight) 1024) →
+      b ≡ (eqb r 1024 && eqb c 1024 && eqb w 1024)
+  lengths-right {a} p q =
+      q ∙ ap (λ (x : Bool). x && eqb (length weight) 1024) p
+      ∙ ap (λ k. eqb k 1024 && eqb (length column) 1024 && eqb (length weight) 1024) row-kept
+      ∙ ap (λ k. eqb r 1024 && eqb k 1024 && eqb (length weight) 1024) column-kept
+      ∙ ap (λ k. eqb r 1024 && eqb c 1024 && eqb k 1024) weight-kept
 
--- After a refusal the outputs are cleared.
-refusal-leaves : (r c w : ℕ) (s : List ℕ) {x : Outcome Head} {row column : List ℕ} {weight : List ℤ} (f : Refusal) → x ≡ refuses (f .fault) (f .place) → x ≡ reported headOf (readGraph r c w s) → Cleared r c w row column weight → Answers r c w s x row column weight
-refusal-leaves r c w s f is e C = record {
-  answer = e;
-  rows = C .rows ∙ left-refused r 0 (λ (g : Graph). g .row) headOf (readGraph r c w s) (f .fault) (f .place) (sym is ∙ e);
-  columns = C .columns ∙ left-refused c 0 (λ (g : Graph). g .column) headOf (readGraph r c w s) (f .fault) (f .place) (sym is ∙ e);
-  weights = C .weights ∙ left-refused w (pos 0) (λ (g : Graph). g .weight) headOf (readGraph r c w s) (f .fault) (f .place) (sym is ∙ e);
-}
+  -- A refusal leaves the outputs all 0.
+  refused-leaves : (s : List ℕ) (x : Refusal) → refuses (x .fault) (x .place) ≡ reported shapeOf (readGraph r c w s) →
+      GraphAnswered r c w s (GraphAnswer.Refused x) row column weight
+  refused-leaves s x e = (
+    e,
+    (
+      C .rows ∙ left-refused r 0 (λ (g : Graph). g .row) shapeOf (readGraph r c w s) (x .fault) (x .place) e,
+      (
+        C .columns ∙ left-refused c 0 (λ (g : Graph). g .column) shapeOf (readGraph r c w s) (x .fault) (x .place) e,
+        C .weights ∙ left-refused w (pos 0) (λ (g : Graph). g .weight) shapeOf (readGraph r c w s) (x .fault) (x .place) e,
+      ),
+    ),
+  )
 
--- The lengths that the tests let pass.
-pub record Right (r c w : ℕ) : Type 0 where
-  pub rows : r ≡ 1024
-  pub columns : c ≡ 1024
-  pub weights : w ≡ 1024
+abbrev graphTextTests : Bool → List ℕ → List Test
+graphTextTests lent s = once LentLength lent ∷ once Sizes true ∷ once TextLength (textFits s) ∷ []
 
-module _ (r c w : ℕ) (s : List ℕ) {a : Check} (says : checkSays a ≡ passing (lentTests r c w s) (yields (tt {0}))) where
-  pub whole-lent : {f : Refusal} {row column : List ℕ} {weight : List ℤ} → a ≡ Check.Refused f → Cleared r c w row column weight → Answers r c w s (refuses (f .fault) (f .place)) row column weight
+module _ (r c w : ℕ) (s : List ℕ) {lent : Bool} (p : lent ≡ (eqb r 1024 && eqb c 1024 && eqb w 1024)) (a : Check)
+    (says : checkSays a ≡ passing (graphTextTests lent s) (yields tt)) where
+  abbrev lentRight : Bool
+  lentRight = eqb r 1024 && eqb c 1024 && eqb w 1024
+
+  says-whole : checkSays a ≡ passing (graphTextTests lentRight s) (yields tt)
+  says-whole = says ∙ ap (λ (x : Bool). passing (graphTextTests x s) (yields (tt {0}))) p
+
+  pub whole-lent : {x : Refusal} {row column : List ℕ} {weight : List ℤ} → a ≡ Check.Refused x → Cleared r c w row column weight →
+      GraphAnswered r c w s (GraphAnswer.Refused x) row column weight
   unfolding readGraph
-  whole-lent {f} is C = refusal-leaves r c w s f refl (ap (reported headOf) (sym (checked-refused (lentTests r c w s) (readText graphLayout s) says is))) C
+  whole-lent {x} is C = refused-leaves C s x (ap (reported shapeOf) (sym (checked-refused (graphTextTests lentRight s) (readText graphLayout s) says-whole is)))
 
   module _ (is : a ≡ Check.Passed) where
-    pub lent-right : Right r c w
+    lent-right : (r ≡ 1024) × (c ≡ 1024) × (w ≡ 1024)
     lent-right =
-        let p = both (eqb r 1024 && eqb c 1024) (eqb w 1024) (once-yields LentLength (lent r c w s) (fromText r c w s) (yields tt) tt (sym says ∙ ap checkSays is) .0) in
+        let p = both (eqb r 1024 && eqb c 1024) (eqb w 1024)
+        (once-yields LentLength lentRight (once Sizes true ∷ once TextLength (textFits s) ∷ []) (yields tt) tt
+        (sym says-whole ∙ ap checkSays is) .0) in
         let q = both (eqb r 1024) (eqb c 1024) (p .0) in
-        record { rows = eqb-true r 1024 (q .0); columns = eqb-true c 1024 (q .1); weights = eqb-true w 1024 (p .1) }
+        (eqb-true r 1024 (q .0), eqb-true c 1024 (q .1), eqb-true w 1024 (p .1))
 
     pub lent-cleared : {row column : List ℕ} {weight : List ℤ} → Cleared r c w row column weight → Cleared 1024 1024 1024 row column weight
-    lent-cleared C = cleared-again C (lent-right .rows) (lent-right .columns) (lent-right .weights)
+    lent-cleared C = cleared-again C (lent-right .0) (lent-right .1) (lent-right .2)
 
     passed : readText graphLayout s ≡ readGraph r c w s
     unfolding readGraph
-    passed = sym (checked-passed (lentTests r c w s) (readText graphLayout s) says is)
+    passed = sym (checked-passed (graphTextTests lentRight s) (readText graphLayout s) says-whole is)
 
-    module _ {g : GraphAnswer} (told : graphSays g ≡ reported headOf (readText graphLayout s)) where
-      told-as : (m : GraphAnswer) → g ≡ m → graphSays m ≡ reported headOf (readGraph r c w s)
-      told-as m it = ap graphSays (sym it) ∙ told ∙ ap (reported headOf) passed
+    module _ {g : GraphAnswer} {row column : List ℕ} {weight : List ℤ} (R : GraphReading s g row column weight) where
+      told : (m : GraphAnswer) → g ≡ m → graphSays m ≡ reported shapeOf (readGraph r c w s)
+      told m it = ap graphSays (sym it) ∙ R .says ∙ ap (reported shapeOf) passed
 
-      pub whole-read : {kind : Kind} {rows columns edges : ℕ} {row column : List ℕ} {weight : List ℤ} → g ≡ GraphAnswer.Graph kind rows columns edges → Held (readText graphLayout s) row column weight → Answers r c w s (graphSays (GraphAnswer.Graph kind rows columns edges)) row column weight
-      whole-read {kind} {rows} {columns} {edges} {row} {column} {weight} it H =
-          let e = told-as (GraphAnswer.Graph kind rows columns edges) it in
-          let K : Held (readGraph r c w s) row column weight = subst (λ u. Held u row column weight) passed H in
-          record {
-            answer = e;
-            rows = left-yields headOf (K .rows) e ∙ ap (λ k. output k 0 (λ (g : Graph). g .row) (readGraph r c w s)) (sym (lent-right .rows));
-            columns = left-yields headOf (K .columns) e ∙ ap (λ k. output k 0 (λ (g : Graph). g .column) (readGraph r c w s)) (sym (lent-right .columns));
-            weights = left-yields headOf (K .weights) e ∙ ap (λ k. output k (pos 0) (λ (g : Graph). g .weight) (readGraph r c w s)) (sym (lent-right .weights));
-          }
+      left : {N : Type 0} (z : N) (f : Graph → List N) {out : List N} {n : ℕ} → n ≡ 1024 → Holds 1024 z f (readText graphLayout s) out → {t : Shape} →
+          yields t ≡ reported shapeOf (readGraph r c w s) → out ≡ output n z f (readGraph r c w s)
+      left z f {out} same H e = left-yields shapeOf (subst (λ u. Holds 1024 z f u out) passed H) e ∙ ap (λ k. output k z f (readGraph r c w s)) (sym same)
 
-      pub whole-refused : {f : Refusal} {row column : List ℕ} {weight : List ℤ} → g ≡ GraphAnswer.Refused f → Cleared r c w row column weight → Answers r c w s (refuses (f .fault) (f .place)) row column weight
-      whole-refused {f} it C = refusal-leaves r c w s f refl (told-as (GraphAnswer.Refused f) it) C
+      pub whole-read : {t : Shape} → g ≡ GraphAnswer.Graph t → GraphAnswered r c w s (GraphAnswer.Graph t) row column weight
+      whole-read {t} it =
+          let e = told (GraphAnswer.Graph t) it in (
+            e,
+            (
+              left 0 (λ h. h .row) (lent-right .0) (R .rows) e,
+              (left 0 (λ h. h .column) (lent-right .1) (R .columns) e, left (pos 0) (λ h. h .weight) (lent-right .2) (R .weights) e),
+            ),
+          )
+
+      pub whole-refused : {x : Refusal} {rowₙ columnₙ : List ℕ} {weightₙ : List ℤ} → g ≡ GraphAnswer.Refused x → Cleared r c w rowₙ columnₙ weightₙ →
+          GraphAnswered r c w s (GraphAnswer.Refused x) rowₙ columnₙ weightₙ
+      whole-refused {x} it C = refused-leaves C s x (told (GraphAnswer.Refused x) it)

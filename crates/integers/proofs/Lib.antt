@@ -3,3 +3,4 @@ pub mod Order
 pub mod Diff
 pub mod Total
 pub mod Sum
+pub mod Loops

@@ -1,4 +1,5 @@
--- omega decides orders, sums and differences of integers by their positive and negative parts; a test's answer is the order that it tests; what the machine stores reads back.
+-- omega decides orders, sums and differences of integers by their positive and negative parts; a test's answer is the order that it tests; what the
+-- machine stores reads back.
 use mathlib.Core.Path.{_≡_, refl, sym, ap, ap₂, _∙_, subst}
 use mathlib.Core.Bool.{Bool, true, false, not, cond, _&&_, true≢false, false≢true}
 use Prim.Native.Nat.{ℕ, zero, suc, _+_, _*_, _-_, _^_, _≤_, _<_}

@@ -20,13 +20,15 @@ pub record Summing (A : Type 0) : Type 0 where
 
 -- what relates the terms of two sums, and is kept by adding, relates the sums
 module _ {A B : Type 0} (S : Summing A) (T : Summing B) (R : A → B → Type 0) where
-  pub related : R (S .none) (T .none) → ((a c : A) (b d : B) → R a b → R c d → R (S .plus a c) (T .plus b d)) → (n : ℕ) (f : ℕ → A) (g : ℕ → B) → ((i : ℕ) → i < n → R (f i) (g i)) → R (S .total n f) (T .total n g)
+  pub related : R (S .none) (T .none) → ((a c : A) (b d : B) → R a b → R c d → R (S .plus a c) (T .plus b d)) → (n : ℕ) (f : ℕ → A) (g : ℕ → B) →
+      ((i : ℕ) → i < n → R (f i) (g i)) → R (S .total n f) (T .total n g)
   related base both zero f g h = rw (S .start f, T .start g) base
   related base both (suc n) f g h =
       rw (S .step n f, T .step n g) (both _ _ _ _ (related base both n f g (λ i l. h i (omega arith))) (h n (omega arith)))
 
 -- a map that keeps sums of two keeps every sum
-pub image : {A B : Type 0} (S : Summing A) (T : Summing B) (h : A → B) → h (S .none) ≡ T .none → ((a b : A) → h (S .plus a b) ≡ T .plus (h a) (h b)) → (n : ℕ) (f : ℕ → A) → T .total n (λ i. h (f i)) ≡ h (S .total n f)
+pub image : {A B : Type 0} (S : Summing A) (T : Summing B) (h : A → B) → h (S .none) ≡ T .none → ((a b : A) → h (S .plus a b) ≡ T .plus (h a) (h b)) →
+    (n : ℕ) (f : ℕ → A) → T .total n (λ i. h (f i)) ≡ h (S .total n f)
 image S T h base both n f =
     sym (related S T (λ a b. h a ≡ b) base (λ a c b d p q. both a c ∙ ap₂ (T .plus) p q) n f (λ i. h (f i)) (λ i l. refl))
 

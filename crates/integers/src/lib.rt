@@ -81,3 +81,18 @@ pub fn element(w: &[i32], p: usize) -> i64
 {
     widen(w[p])
 }
+
+// A number that is not negative, and 0 for one that is.
+pub fn natural_part(x: i32) -> u32
+    ensures { λ r. ⌜ r ≡ up x ⌝ }
+{
+    if x < 0 { 0 } else { natural(x) }
+}
+
+// The element of w at p, and 0 where it is negative.
+pub fn natural_at(w: &[i32], p: usize) -> u32
+    requires { ⌜ p < length (now w) ⌝ }
+    ensures { λ r. ⌜ r ≡ up (getD (now (w .entry)) p (pos 0)) ⌝ }
+{
+    natural_part(w[p])
+}

@@ -6,20 +6,22 @@ use mathlib.Core.List.{List, [], _∷_}
 use lib.IntN.{ℤ, pos}
 use lib.ListN.{length, replicate}
 use Rattle.graph.specs.declared.Kind.{Kind}
+use Rattle.graph.specs.declared.Shape.{Shape}
 use Rattle.graph.specs.declared.Kind.the-variants.{Bipartite, General}
 use Rattle.graph.specs.Refusal.{Outcome, yields, refuses, numberOf, reported, output}
-use Rattle.graph.specs.Graph.{Graph}
+use Rattle.graph.specs.Graph.{Graph, shapeOf}
 use Rattle.layout.specs.declared.Numbers.{Numbers}
 use Rattle.layout.specs.declared.Numbers.the-variants.{Bounds, Prices}
-use Rattle.layout.specs.Answers.{Head, headOf}
 use Rattle.dual.specs.declared.Measures.{Measures}
-use Rattle.dual.specs.Solve.{Lent, solve}
-use Rattle.solver.specs.Solver.{Left}
+use Rattle.dual.specs.Solve.{Lent, solve, Left}
 
--- The kind that is passed as a bool, and the sort of numbers.
+-- The kind that is passed as a bool, the shape with it, and the sort of numbers.
 abbrev pub kindOf : Bool → Kind
 kindOf false = Bipartite
 kindOf true = General
+
+abbrev pub shapeGiven : Bool → ℕ → ℕ → ℕ → Shape
+shapeGiven general rows columns edges = record { kind = kindOf general; rows = rows; columns = columns; edges = edges }
 
 abbrev pub numbersOf : Bool → Numbers
 numbersOf false = Bounds
@@ -40,9 +42,9 @@ kindNumber Bipartite = 0
 kindNumber General = 1
 
 -- What the graph reader tells: the place, and kind, rows, columns and the number of edges.
-abbrev pub headTold : Outcome Head → List ℕ
-headTold (yields h) = 0 ∷ kindNumber (h .kind) ∷ h .rows ∷ h .columns ∷ h .edges ∷ []
-headTold (refuses fault place) = place ∷ 0 ∷ 0 ∷ 0 ∷ 0 ∷ []
+abbrev pub shapeTold : Outcome Shape → List ℕ
+shapeTold (yields s) = 0 ∷ kindNumber (s .kind) ∷ s .rows ∷ s .columns ∷ s .edges ∷ []
+shapeTold (refuses fault place) = place ∷ 0 ∷ 0 ∷ 0 ∷ 0 ∷ []
 
 -- What the subgraph writer tells: the place, and the text's length.
 abbrev pub lengthTold : Outcome ℕ → List ℕ
@@ -57,7 +59,7 @@ measuresTold (refuses fault place) = replicate 7 (pos 0)
 -- A call that yields W has read a graph: what it returns and tells, and what its three outputs, of a, b and c numbers, hold.
 pub record GraphRead (W : Outcome Graph) (a b c r : ℕ) (answer row column : List ℕ) (weight : List ℤ) : Type 0 where
   pub number : r ≡ numberIn W
-  pub told : answer ≡ headTold (reported headOf W)
+  pub told : answer ≡ shapeTold (reported shapeOf W)
   pub rows : row ≡ output a 0 (λ g. g .row) W
   pub columns : column ≡ output b 0 (λ g. g .column) W
   pub weights : weight ≡ output c (pos 0) (λ g. g .weight) W

@@ -5,6 +5,7 @@
 use dual::MeasureAnswer;
 use dual::SolveAnswer;
 use graph::Kind;
+use graph::Shape;
 use layout::GraphAnswer;
 use layout::Numbers;
 use layout::NumbersAnswer;
@@ -17,11 +18,11 @@ ghost use lib.ListN.{length};
 ghost use Rattle.layout.specs.GraphText.{readGraph};
 ghost use Rattle.layout.specs.NumberText.{readNumbers};
 ghost use Rattle.layout.specs.SubgraphText.{readSubgraph, writeSubgraph};
-ghost use Rattle.checks.specs.Checks.{graphOf};
+ghost use Rattle.graph.specs.Graph.{graphOf};
+ghost use Rattle.dual.specs.Prices.{pricesOf};
 ghost use Rattle.dual.specs.Measure.{measure};
-ghost use Rattle.sets.specs.Lent.{pricesOf};
-ghost use Rattle.solver.specs.Solver.{lentOf};
-ghost use Rattle.jangoripu.specs.Exports.{kindOf, kindNumber, numbersOf, GraphRead, Filled, TextWritten, GraphSolved, Measured};
+ghost use Rattle.dual.specs.Solve.{lentOf};
+ghost use Rattle.jangoripu.specs.Exports.{kindOf, shapeGiven, kindNumber, numbersOf, GraphRead, Filled, TextWritten, GraphSolved, Measured};
 
 // The kind that is passed as a bool.
 fn kind_of(general: bool) -> Kind
@@ -67,14 +68,10 @@ pub extern "C" fn jangoripu_read_graph(
     ensures { λ r. ⌜ GraphRead (readGraph (length (now (row .entry))) (length (now (column .entry))) (length (now (weight .entry))) (now (text .entry))) (length (now (row .entry))) (length (now (column .entry))) (length (now (weight .entry))) r (now (answer .exit)) (now (row .exit)) (now (column .exit)) (now (weight .exit)) ⌝ }
 {
     match graph_reader::read_graph(text, row, column, weight) {
-        GraphAnswer::Graph {
-            kind,
-            rows,
-            columns,
-            edges,
-        } => {
+        GraphAnswer::Graph(s) => {
+            let kind = s.kind;
             let number = kind_number(kind);
-            *answer = [0, number, rows as u64, columns as u64, edges as u64];
+            *answer = [0, number, s.rows as u64, s.columns as u64, s.edges as u64];
             0
         }
         GraphAnswer::Refused(refusal) => {
@@ -124,20 +121,16 @@ pub extern "C" fn jangoripu_read_subgraph(
     chosen: &mut [u8],
     place: &mut u64,
 ) -> u32
-    ensures { λ r. ⌜ Filled ℕ (readSubgraph (graphOf (kindOf general) rows columns edges (now (row .entry)) (now (column .entry)) (now (weight .entry))) (length (now (chosen .entry))) (now (text .entry))) (length (now (chosen .entry))) 0 r (now (place .exit)) (now (chosen .exit)) ⌝ }
+    ensures { λ r. ⌜ Filled ℕ (readSubgraph (graphOf (shapeGiven general rows columns edges) (now (row .entry)) (now (column .entry)) (now (weight .entry))) (length (now (chosen .entry))) (now (text .entry))) (length (now (chosen .entry))) 0 r (now (place .exit)) (now (chosen .exit)) ⌝ }
 {
     let kind = kind_of(general);
-    match subgraph_reader::read_subgraph(
-        text,
+    let s = Shape {
         kind,
         rows,
         columns,
         edges,
-        row,
-        column,
-        weight,
-        chosen,
-    ) {
+    };
+    match subgraph_reader::read_subgraph(text, s, row, column, weight, chosen) {
         SubgraphAnswer::Read => {
             *place = 0;
             0
@@ -164,20 +157,16 @@ pub extern "C" fn jangoripu_write_subgraph(
     out: &mut [u8],
     answer: &mut [u64; 2],
 ) -> u32
-    ensures { λ r. ⌜ TextWritten (writeSubgraph (graphOf (kindOf general) rows columns edges (now (row .entry)) (now (column .entry)) (now (weight .entry))) (now (chosen .entry)) (length (now (out .entry)))) (length (now (out .entry))) r (now (answer .exit)) (now (out .exit)) ⌝ }
+    ensures { λ r. ⌜ TextWritten (writeSubgraph (graphOf (shapeGiven general rows columns edges) (now (row .entry)) (now (column .entry)) (now (weight .entry))) (now (chosen .entry)) (length (now (out .entry)))) (length (now (out .entry))) r (now (answer .exit)) (now (out .exit)) ⌝ }
 {
     let kind = kind_of(general);
-    match subgraph_writer::write_subgraph(
+    let s = Shape {
         kind,
         rows,
         columns,
         edges,
-        row,
-        column,
-        weight,
-        chosen,
-        out,
-    ) {
+    };
+    match subgraph_writer::write_subgraph(s, row, column, weight, chosen, out) {
         TextAnswer::Written(length) => {
             *answer = [0, length as u64];
             0
@@ -207,14 +196,17 @@ pub extern "C" fn jangoripu_solve(
     workspace: &mut [i32],
     place: &mut u64,
 ) -> u32
-    ensures { λ r. ⌜ GraphSolved (graphOf (kindOf general) rows columns edges (now (row .entry)) (now (column .entry)) (now (weight .entry))) (now (bound .entry)) (lentOf (length (now (chosen .entry))) (length (now («vertex_price» .entry))) (length (now («edge_price» .entry))) (length (now (workspace .entry)))) r (now (place .exit)) (now (chosen .exit)) (now («vertex_price» .exit)) (now («edge_price» .exit)) (now (workspace .exit)) ⌝ }
+    ensures { λ r. ⌜ GraphSolved (graphOf (shapeGiven general rows columns edges) (now (row .entry)) (now (column .entry)) (now (weight .entry))) (now (bound .entry)) (lentOf (length (now (chosen .entry))) (length (now («vertex_price» .entry))) (length (now («edge_price» .entry))) (length (now (workspace .entry)))) r (now (place .exit)) (now (chosen .exit)) (now («vertex_price» .exit)) (now («edge_price» .exit)) (now (workspace .exit)) ⌝ }
 {
     let kind = kind_of(general);
-    match solver::solve(
+    let s = Shape {
         kind,
         rows,
         columns,
         edges,
+    };
+    match solver::solve(
+        s,
         row,
         column,
         weight,
@@ -257,14 +249,17 @@ pub extern "C" fn jangoripu_measure(
     numbers: &mut [i64; 7],
     place: &mut u64,
 ) -> u32
-    ensures { λ r. ⌜ Measured (measure (graphOf (kindOf general) rows columns edges (now (row .entry)) (now (column .entry)) (now (weight .entry))) (now (bound .entry)) (now (chosen .entry)) (pricesOf (now («vertex_price» .entry)) (now («edge_price» .entry)) sets (now («set_price» .entry)) (now («set_vertices» .entry)) (now («set_edges» .entry)))) r (now (place .exit)) (now (numbers .exit)) ⌝ }
+    ensures { λ r. ⌜ Measured (measure (graphOf (shapeGiven general rows columns edges) (now (row .entry)) (now (column .entry)) (now (weight .entry))) (now (bound .entry)) (now (chosen .entry)) (pricesOf (now («vertex_price» .entry)) (now («edge_price» .entry)) sets (now («set_price» .entry)) (now («set_vertices» .entry)) (now («set_edges» .entry)))) r (now (place .exit)) (now (numbers .exit)) ⌝ }
 {
     let kind = kind_of(general);
-    match measure::measure(
+    let s = Shape {
         kind,
         rows,
         columns,
         edges,
+    };
+    match measure::measure(
+        s,
         row,
         column,
         weight,

@@ -1,8 +1,7 @@
 -- What the answers of the calls on texts say: document 01's values, or a refusal's fault and place.
 use Prim.Native.Nat.{ℕ}
-use Rattle.graph.specs.declared.Kind.{Kind}
+use Rattle.graph.specs.declared.Shape.{Shape}
 use Rattle.graph.specs.Refusal.{Outcome, yields, refuses}
-use Rattle.graph.specs.Graph.{Graph}
 use Rattle.layout.specs.declared.GraphAnswer.{GraphAnswer}
 use Rattle.layout.specs.declared.GraphAnswer.the-variants as GraphAnswer
 use Rattle.layout.specs.declared.NumbersAnswer.{NumbersAnswer}
@@ -12,18 +11,9 @@ use Rattle.layout.specs.declared.SubgraphAnswer.the-variants as Subgraph
 use Rattle.layout.specs.declared.TextAnswer.{TextAnswer}
 use Rattle.layout.specs.declared.TextAnswer.the-variants as TextAnswer
 
--- What the graph reader gives besides its outputs: kind, rows, columns and the number of edges.
-pub record Head : Type 0 where
-  pub kind : Kind
-  pub rows : ℕ
-  pub columns : ℕ
-  pub edges : ℕ
-
-abbrev pub headOf : Graph → Head
-headOf g = record { kind = g .kind; rows = g .rows; columns = g .columns; edges = g .edges }
-
-abbrev pub graphSays : GraphAnswer → Outcome Head
-graphSays (GraphAnswer.Graph kind rows columns edges) = yields (record { kind = kind; rows = rows; columns = columns; edges = edges })
+-- The graph reader tells the graph's shape: kind, rows, columns and the number of edges.
+abbrev pub graphSays : GraphAnswer → Outcome Shape
+graphSays (GraphAnswer.Graph s) = yields s
 graphSays (GraphAnswer.Refused r) = refuses (r .fault) (r .place)
 
 abbrev pub numbersSay : NumbersAnswer → Outcome (Unit {0})

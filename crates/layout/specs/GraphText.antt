@@ -9,8 +9,10 @@ use lib.ListN.{length}
 use Rattle.graph.specs.declared.Kind.{Kind}
 use Rattle.graph.specs.declared.Kind.the-variants.{Bipartite, General}
 use Rattle.graph.specs.declared.Fault.the-variants.{TextLength, Header, SizeLine, Sizes, LaterLine, Ends, Weight, SameEnds, LentLength}
+use Rattle.graph.specs.declared.Shape.{Shape}
+use Rattle.graph.specs.Limits.{mostEdges}
 use Rattle.graph.specs.Refusal.{Outcome, once, passing}
-use Rattle.graph.specs.Graph.{Graph, sizesInRange, endsInRange, weightInRange, joined}
+use Rattle.graph.specs.Graph.{Graph, graphOf, shapeOf, shapeInRange, endsInRange, weightInRange, joined}
 use Rattle.layout.specs.Text.{bytes, words, natural, integer, threeWords, header, textFits}
 use Rattle.layout.specs.Lines.{Step, goes, stops, Layout, readText}
 
@@ -20,26 +22,21 @@ graphHeader l =
     cond (header (bytes "matrix" ∷ bytes "coordinate" ∷ bytes "integer" ∷ bytes "general" ∷ []) l) (goes Bipartite)
     (cond (header (bytes "matrix" ∷ bytes "coordinate" ∷ bytes "integer" ∷ bytes "symmetric" ∷ []) l) (goes General) (stops Header))
 
--- The graph with no edge read yet, where m are to come.
-abbrev pub noEdges : Kind → ℕ → ℕ → ℕ → Graph
-noEdges kind rows columns m = record { kind = kind; rows = rows; columns = columns; edges = m; row = []; column = []; weight = [] }
+-- The graph of a shape with no edge read yet.
+abbrev pub noEdges : Shape → Graph
+noEdges s = graphOf s [] [] []
 
 -- Size line: rows, columns, edges.
+abbrev pub shapeFrom : Kind → ℕ × ℕ × ℕ → Shape
+shapeFrom kind s = record { kind = kind; rows = s .0; columns = s .1; edges = s .2 }
+
 abbrev pub graphSizes : Kind → Option (ℕ × ℕ × ℕ) → Step Graph
 graphSizes kind none = stops SizeLine
-graphSizes kind (some s) = cond (sizesInRange kind (s .0) (s .1) (s .2)) (goes (noEdges kind (s .0) (s .1) (s .2))) (stops Sizes)
+graphSizes kind (some s) = cond (shapeInRange (shapeFrom kind s)) (goes (noEdges (shapeFrom kind s))) (stops Sizes)
 
 -- The graph with one edge more.
 abbrev pub withEdge : Graph → ℕ → ℕ → ℤ → Graph
-withEdge g r c w = record {
-  kind = g .kind;
-  rows = g .rows;
-  columns = g .columns;
-  edges = g .edges;
-  row = g .row ++ (r ∷ []);
-  column = g .column ++ (c ∷ []);
-  weight = g .weight ++ (w ∷ []);
-}
+withEdge g r c w = graphOf (shapeOf g) (g .row ++ (r ∷ [])) (g .column ++ (c ∷ [])) (g .weight ++ (w ∷ []))
 
 -- Edge line: row, column, weight. Tested in this order: malformed, ends, weight, the ends of an earlier edge.
 abbrev pub graphEdge : Graph → Option (ℕ × ℕ × ℤ) → Step Graph
@@ -63,5 +60,5 @@ graphLayout = record {
 -- What the graph reader yields of a text, where its three outputs have r, c and w numbers.
 unfoldable pub readGraph : ℕ → ℕ → ℕ → List ℕ → Outcome Graph
 readGraph r c w text =
-    passing (once LentLength (eqb r 1024 && eqb c 1024 && eqb w 1024) ∷ once TextLength (textFits text) ∷ [])
+    passing (once LentLength (eqb r mostEdges && eqb c mostEdges && eqb w mostEdges) ∷ once TextLength (textFits text) ∷ [])
     (readText graphLayout text)

@@ -8,6 +8,7 @@ use lib.IntN.{ℤ}
 use lib.ListN.{length}
 use Rattle.graph.specs.declared.Fault.{Fault}
 use Rattle.graph.specs.declared.Fault.the-variants.{TextLength, Header, SizeLine, Sizes, LaterLine, LentLength, Bound, Price}
+use Rattle.graph.specs.Limits.{mostNumbers}
 use Rattle.graph.specs.Refusal.{Outcome, once, passing}
 use Rattle.graph.specs.Graph.{upTo, boundInRange, priceInRange}
 use Rattle.layout.specs.declared.Numbers.{Numbers}
@@ -50,5 +51,5 @@ numberLayout what count = record {
 -- What the number reader yields of a text, where count numbers of a sort are asked for and its output has n.
 unfoldable pub readNumbers : Numbers → ℕ → ℕ → List ℕ → Outcome (List ℤ)
 readNumbers what count n text =
-    passing (once LentLength (eqb n count) ∷ once Sizes (upTo 1152 count) ∷ once TextLength (textFits text) ∷ [])
+    passing (once LentLength (eqb n count) ∷ once Sizes (upTo mostNumbers count) ∷ once TextLength (textFits text) ∷ [])
     (readText (numberLayout what count) text)

@@ -9,6 +9,7 @@ use Rattle.integers.specs.Sum.{sum}
 use Rattle.graph.specs.declared.Kind.{Kind}
 use Rattle.graph.specs.declared.Kind.the-variants.{Bipartite, General}
 use Rattle.graph.specs.declared.Fault.the-variants.{TextLength, Header, SizeLine, Sizes, LaterLine, Ends, SameEnds, LentLength, Disagreement}
+use Rattle.graph.specs.Limits.{subgraphBytes}
 use Rattle.graph.specs.Refusal.{Outcome, yields, once, lowest, passing}
 use Rattle.graph.specs.Graph.{Graph, rowAt, columnAt, sizesInRange, endsInRange, joins}
 use Rattle.graph.specs.Subgraph.{markAt}
@@ -102,5 +103,5 @@ subgraphText g x =
 -- What the subgraph writer yields, where its output has n bytes.
 unfoldable pub writeSubgraph : Graph → List ℕ → ℕ → Outcome (List ℕ)
 writeSubgraph g x n =
-    passing (once LentLength (graphLengths g && eqb (length x) (g .edges) && eqb n 16384) ∷ graphTests g)
+    passing (once LentLength (graphLengths g && eqb (length x) (g .edges) && eqb n subgraphBytes) ∷ graphTests g)
     (passing (markTest g x ∷ []) (yields (subgraphText g x)))

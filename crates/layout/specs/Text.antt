@@ -6,6 +6,7 @@ use mathlib.Core.Option.{Option, none, some, Option·map}
 use lib.Dec.{eqb, leb, ltb}
 use lib.IntN.{ℤ, pos, negℤ}
 use lib.ListN.{length}
+use Rattle.graph.specs.Limits.{longestText, longestLine}
 use Prim.Native.String.{String, [] as []ˢ, _∷_ as _∷ˢ_}
 use Prim.Native.Char.{code}
 
@@ -141,10 +142,10 @@ header ks l = begins l && headerWords ks (words l)
 
 -- A text has at most 32,768 bytes, and a line at most 1,024 before its byte 10.
 abbrev pub textFits : List ℕ → Bool
-textFits text = leb (length text) 32768
+textFits text = leb (length text) longestText
 
 abbrev pub lineFits : List ℕ → Bool
-lineFits l = leb (length l) 1024
+lineFits l = leb (length l) longestLine
 
 -- How a number is written: its digits, with no leading zero. A number below 10 ^ k has at most k digits; one of 64 bits has at most 20.
 unfoldable pub digits : ℕ → ℕ → List ℕ

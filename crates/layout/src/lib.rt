@@ -1,6 +1,6 @@
 // What the calls on texts are told and answer.
-use graph::Kind;
 use graph::Refusal;
+use graph::Shape;
 
 // What a number text holds: bounds (limits) or prices.
 pub enum Numbers {
@@ -10,12 +10,7 @@ pub enum Numbers {
 
 // The graph reader's answer.
 pub enum GraphAnswer {
-    Graph {
-        kind: Kind,
-        rows: u32,
-        columns: u32,
-        edges: u32,
-    },
+    Graph(Shape),
     Refused(Refusal),
 }
 

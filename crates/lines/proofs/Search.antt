@@ -1,5 +1,5 @@
 -- The loop that looks for the next line that counts, on plain values.
-use mathlib.Core.Path.{_≡_, refl, sym, ap, ap₂, _∙_, subst}
+use mathlib.Core.Path.{_≡_, refl, sym, ap, ap₂, _∙_}
 use mathlib.Core.Bool.{Bool, true, false, cond, _||_}
 use mathlib.Core.List.{List, [], _∷_}
 use Prim.Native.Nat.{ℕ, _+_, _-_, _≤_, _<_}
@@ -10,15 +10,9 @@ use Rattle.layout.specs.Text.{lines, lineFits, blankLine, commentLine}
 use Rattle.text.specs.declared.Cursor.{Cursor}
 use Rattle.text.proofs.Lined.{Lined}
 use Rattle.text.proofs.Pieces.{lines-none}
-use Rattle.lines.specs.Found.{at, ended, long, nextData, skips, Inside, FoundInside}
+use Rattle.lines.specs.Found.{at, ended, long, nextData, skips, Inside}
 use Rattle.lines.specs.declared.Skipped.{Skipped}
 use Rattle.lines.specs.declared.Skipped.the-variants as Skipped
-use Rattle.lines.specs.declared.FoundLine.{FoundLine}
-use Rattle.lines.specs.declared.FoundLine.the-variants as FoundLine
-
--- What an answer that found a line says of its places.
-pub inside : (s : List ℕ) (c : Cursor) (r : FoundLine) (start end : ℕ) (next : Cursor) → FoundInside s c r → r ≡ FoundLine.At start end next → Inside s c start end next
-inside s c r start end next i is = subst (FoundInside s c) is i
 
 -- What is skipped, by the answers of the tests.
 module _ (what : Skipped) (l : List ℕ) where
@@ -36,7 +30,8 @@ module _ (skip : List ℕ → Bool) where
   unfolding nextData
   data-nil k = refl
 
-  data-cons : (k : ℕ) (l : List ℕ) (ls : List (List ℕ)) → nextData skip k (l ∷ ls) ≡ cond (lineFits l) (cond (skip l) (nextData skip (k + 1) ls) (at k l ls)) (long k)
+  data-cons : (k : ℕ) (l : List ℕ) (ls : List (List ℕ)) →
+      nextData skip k (l ∷ ls) ≡ cond (lineFits l) (cond (skip l) (nextData skip (k + 1) ls) (at k l ls)) (long k)
   unfolding nextData
   data-cons k l ls = refl
 
@@ -59,7 +54,8 @@ module _ (skip : List ℕ → Bool) where
       others = lines (drop (d .at) s)
 
       step : (fits skipped : Bool) → lineFits line ≡ fits → skip line ≡ skipped
-          → cond fits (cond skipped (nextData skip (c .line + 1 + 1) others) (at (c .line + 1) line others)) (long (c .line + 1)) ≡ nextData skip (from .line + 1) (lines (drop (from .at) s))
+          → cond fits (cond skipped (nextData skip (c .line + 1 + 1) others) (at (c .line + 1) line others)) (long (c .line + 1))
+          ≡ nextData skip (from .line + 1) (lines (drop (from .at) s))
       step fits skipped p q =
           ap₂ (λ (x y : Bool). cond x (cond y (nextData skip (c .line + 1 + 1) others) (at (c .line + 1) line others)) (long (c .line + 1))) (sym p) (sym q)
           ∙ sym (ap (nextData skip (c .line + 1)) (g .front) ∙ data-cons (c .line + 1) line others) ∙ h .whole
@@ -83,8 +79,10 @@ module _ (skip : List ℕ → Bool) where
       search-inside = record {
         forward = g .forward;
         ends = g .inside;
-        behind = omega (arith, h .behind, g .next-at, g .next-line, g .starts, g .forward);
-        reach = omega (arith, g .next-at, g .inside);
+        reached = record {
+          behind = omega (arith, h .behind, g .next-at, g .next-line, g .starts, g .forward);
+          reach = omega (arith, g .next-at, g .inside);
+        };
         onward = omega (arith, h .onward, g .next-at, g .starts, g .forward);
       }
 

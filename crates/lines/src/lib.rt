@@ -1,15 +1,24 @@
-// The next line that counts, for the readers of texts.
+// The walk over the lines of a text, for every reader: the next line that counts, or the refusal that takes its place.
 ghost use mathlib.Core.Path.{_≡_};
-ghost use mathlib.Core.Bool.{_||_, false};
-ghost use Prim.Native.Nat.{_+_, _≤_};
-ghost use lib.ListN.{length, drop};
-ghost use Rattle.layout.specs.Text.{lines, blankLine, commentLine};
-ghost use Rattle.lines.specs.Found.{nextData, skips, foundSays, FoundInside};
+ghost use Prim.Native.Nat.{_+_};
+ghost use lib.ListN.{drop};
+ghost use mathlib.Core.List.{[], _∷_};
+ghost use Rattle.graph.specs.declared.Fault.the-variants.{TextLength, Sizes, LentLength};
+ghost use Rattle.graph.specs.Refusal.{yields, once, passing};
+ghost use Rattle.layout.specs.Text.{lines, textFits};
+ghost use Rattle.checks.specs.Checks.{checkSays};
+ghost use Rattle.lines.specs.Found.{nextData, skips, Reached, FoundAs};
+ghost use Rattle.lines.specs.Walk.{openedOf, OpenedAs, LaterAs, origin, headerMet, sizeMet, laterMet};
+use checks::Check;
+use graph::Fault;
+use graph::LONGEST_LINE;
+use graph::LONGEST_TEXT;
+use graph::Refusal;
 use text::Cursor;
 use text::Line;
 
 // The next line that counts and the cursor after it; or the lines end, or a line is over 1,024 bytes, with that line's number.
-pub enum FoundLine {
+enum FoundLine {
     At {
         start: usize,
         end: usize,
@@ -20,7 +29,7 @@ pub enum FoundLine {
 }
 
 // Which lines do not count.
-pub enum Skipped {
+enum Skipped {
     Nothing,
     BlankAndComment,
     Blank,
@@ -44,9 +53,8 @@ fn is_skipped(what: Skipped, line: &[u8]) -> bool
 
 // The next line from a cursor on that is not skipped.
 fn find_line(s: &[u8], from: Cursor, what: Skipped) -> FoundLine
-    requires { ⌜ (from .line ≤ from .at) × (from .at ≤ length (now s) + 1) ⌝ }
-    ensures found { λ r. ⌜ foundSays (now (s .entry)) r ≡ nextData (skips what) (from .line + 1) (lines (drop (from .at) (now (s .entry)))) ⌝ }
-    ensures inside { λ r. ⌜ FoundInside (now (s .entry)) from r ⌝ }
+    requires { ⌜ Reached (now s) from ⌝ }
+    ensures { λ r. ⌜ FoundAs (now (s .entry)) from (nextData (skips what) (from .line + 1) (lines (drop (from .at) (now (s .entry))))) r ⌝ }
 {
     let mut c = from;
     loop {
@@ -57,7 +65,7 @@ fn find_line(s: &[u8], from: Cursor, what: Skipped) -> FoundLine
             }
             Line::Part { start, end, next } => {
                 let line = &s[start..end];
-                if line.len() > 1024 {
+                if line.len() > LONGEST_LINE {
                     return FoundLine::Long((passed + 1) as u64);
                 }
                 if !is_skipped(what, line) {
@@ -69,28 +77,112 @@ fn find_line(s: &[u8], from: Cursor, what: Skipped) -> FoundLine
     }
 }
 
-// The first line of a text.
-pub fn first_line(s: &[u8]) -> FoundLine
-    ensures found { λ r. ⌜ foundSays (now (s .entry)) r ≡ nextData (λ l. false) 1 (lines (now (s .entry))) ⌝ }
-    ensures inside { λ r. ⌜ FoundInside (now (s .entry)) (record { at = 0; line = 0 }) r ⌝ }
+// The header line or the size line, from its start to its end, and the cursor after it; or its refusal.
+pub enum Opened {
+    At {
+        start: usize,
+        end: usize,
+        next: Cursor,
+    },
+    Refused(Refusal),
+}
+
+// A line that has to come, and the fault where it does not.
+fn to_come(found: FoundLine, fault: Fault) -> Opened
+    ensures { λ r. ⌜ r ≡ openedOf fault found ⌝ }
 {
-    find_line(s, Cursor { at: 0, line: 0 }, Skipped::Nothing)
+    match found {
+        FoundLine::At { start, end, next } => Opened::At { start, end, next },
+        FoundLine::Ended(place) => Opened::Refused(Refusal { fault, place }),
+        FoundLine::Long(place) => Opened::Refused(Refusal { fault, place }),
+    }
+}
+
+// The first line of a text.
+pub fn header_line(s: &[u8]) -> Opened
+    ensures { λ r. ⌜ OpenedAs (now (s .entry)) origin (headerMet (now (s .entry))) r ⌝ }
+{
+    to_come(
+        find_line(s, Cursor { at: 0, line: 0 }, Skipped::Nothing),
+        Fault::Header,
+    )
 }
 
 // The next line that is neither blank nor a comment.
-pub fn size_line(s: &[u8], c: Cursor) -> FoundLine
-    requires { ⌜ (c .line ≤ c .at) × (c .at ≤ length (now s) + 1) ⌝ }
-    ensures found { λ r. ⌜ foundSays (now (s .entry)) r ≡ nextData (λ l. blankLine l || commentLine l) (c .line + 1) (lines (drop (c .at) (now (s .entry)))) ⌝ }
-    ensures inside { λ r. ⌜ FoundInside (now (s .entry)) c r ⌝ }
+pub fn size_line(s: &[u8], c: Cursor) -> Opened
+    requires { ⌜ Reached (now s) c ⌝ }
+    ensures { λ r. ⌜ OpenedAs (now (s .entry)) c (sizeMet (now (s .entry)) c) r ⌝ }
 {
-    find_line(s, c, Skipped::BlankAndComment)
+    to_come(find_line(s, c, Skipped::BlankAndComment), Fault::SizeLine)
 }
 
-// The next line that is not blank.
-pub fn later_line(s: &[u8], c: Cursor) -> FoundLine
-    requires { ⌜ (c .line ≤ c .at) × (c .at ≤ length (now s) + 1) ⌝ }
-    ensures found { λ r. ⌜ foundSays (now (s .entry)) r ≡ nextData blankLine (c .line + 1) (lines (drop (c .at) (now (s .entry)))) ⌝ }
-    ensures inside { λ r. ⌜ FoundInside (now (s .entry)) c r ⌝ }
+// A later line and the cursor after it; or the lines end as they should; or the text is refused.
+pub enum Later {
+    At {
+        start: usize,
+        end: usize,
+        next: Cursor,
+    },
+    Done,
+    Refused(Refusal),
+}
+
+// A later line that is missing, surplus or too long.
+fn late(place: u64) -> Later
+    ensures { λ r. ⌜ r ≡ Later.Refused (record { fault = Fault.LaterLine; place = place }) ⌝ }
 {
-    find_line(s, c, Skipped::Blank)
+    Later::Refused(Refusal {
+        fault: Fault::LaterLine,
+        place,
+    })
+}
+
+// The next line that is not blank, where `more` says whether one is still to come.
+pub fn later_line(s: &[u8], c: Cursor, more: bool) -> Later
+    requires { ⌜ Reached (now s) c ⌝ }
+    ensures { λ r. ⌜ LaterAs (now (s .entry)) c more (laterMet (now (s .entry)) c more) r ⌝ }
+{
+    match find_line(s, c, Skipped::Blank) {
+        FoundLine::At { start, end, next } => {
+            if more {
+                return Later::At { start, end, next };
+            }
+            let passed = next.line;
+            late(passed as u64)
+        }
+        FoundLine::Ended(place) => {
+            if more {
+                return late(place);
+            }
+            Later::Done
+        }
+        FoundLine::Long(place) => late(place),
+    }
+}
+
+// The refusal of the line before a cursor.
+pub fn refused_at(fault: Fault, next: Cursor) -> Refusal
+    ensures { λ r. ⌜ r ≡ record { fault = fault; place = next .line } ⌝ }
+{
+    let passed = next.line;
+    Refusal {
+        fault,
+        place: passed as u64,
+    }
+}
+
+// The tests before a text is read, of which a reader has made its own: what is lent, the sizes asked for, and the text's length.
+pub fn check_text(s: &[u8], lent: bool, sizes: bool) -> Check
+    ensures { λ r. ⌜ checkSays r ≡ passing (once LentLength lent ∷ once Sizes sizes ∷ once TextLength (textFits (now (s .entry))) ∷ []) (yields tt) ⌝ }
+{
+    if !lent {
+        return checks::refused(Fault::LentLength, 0);
+    }
+    if !sizes {
+        return checks::refused(Fault::Sizes, 0);
+    }
+    if s.len() > LONGEST_TEXT {
+        return checks::refused(Fault::TextLength, 0);
+    }
+    Check::Passed
 }

@@ -1,5 +1,3 @@
-pub mod Three
+pub mod Tests
 pub mod Shown
-pub mod Refusing
-pub mod Counted
-pub mod Answers
+pub mod Tables

@@ -1,129 +1,127 @@
--- What the tests of the measuring call show of what is lent.
-use Prim.Native.Nat.{ℕ, _*_, _^_, _≤_, _<_, min}
-use mathlib.Core.Path.{_≡_, sym, ap, _∙_}
-use mathlib.Core.Bool.{Bool, true, true≢false, _&&_}
+-- What the first tests of the measuring call show, and what it yields by the first that refuses.
+use Prim.Native.Nat.{ℕ, _*_}
+use mathlib.Core.Path.{_≡_, refl, sym, ap, _∙_}
+use mathlib.Core.Bool.{Bool, true, false, _&&_}
 use mathlib.Core.List.{List, [], _∷_, _++_}
-use mathlib.Core.Option.{none, some}
 use native.Mathlib.Omega.{arith}
-use native.Mathlib.Decide.{decLt}
-use lib.Dec.{eqb, ltb}
+use lib.Dec.{eqb}
 use lib.IntN.{ℤ}
-use lib.ListN.{length, length-append}
+use lib.ListN.{length}
 use borrow.Author.Tests.{eqb-true}
-use Rattle.integers.proofs.Order.{order}
 use Rattle.graph.specs.declared.Fault.the-variants.{LentLength}
-use Rattle.graph.specs.Refusal.{Outcome, yields, once, lowest, passing}
+use Rattle.graph.specs.declared.Refusal.{Refusal}
+use Rattle.graph.specs.Refusal.{Outcome, yields, refuses, Test, once, passing}
 use Rattle.graph.specs.Graph.{Graph, vertices}
 use Rattle.graph.specs.Tests.{graphLengths, graphTests, boundTest, markTest, degreeTest}
-use Rattle.graph.proofs.Passing.{lowest-none, lowest-some, passes, passes-split}
-use Rattle.graph.proofs.Ranges.{held}
+use Rattle.graph.specs.Passed.{Passed, Bounded, MarksHold}
+use Rattle.graph.proofs.Passing.{passes, passes-split}
+use Rattle.graph.proofs.Passed.{graph-passed, bounds-passed, marks-passed}
+use Rattle.graph.proofs.Ranges.{both, held}
 use Rattle.dual.specs.declared.Measures.{Measures}
-use Rattle.dual.specs.Prices.{Prices, allPrices}
-use Rattle.dual.specs.Sets.{keepsRules}
-use Rattle.dual.specs.Measure.{measureLengths}
-use Rattle.duality.proofs.Passed.{Sound, Bounded, PriceLengths, MeasurePassed, graph-passed, bound-passed}
-use Rattle.sums.specs.Lent.{SetsFit}
-use Rattle.measure.specs.Tests.{subgraphTests}
-use Rattle.measure.specs.Lent.{SubgraphLent, Testable, Measurable}
-
--- What a check yields that no test refuses.
-abbrev pub accepted : Outcome (Unit {0})
-accepted = yields tt
-
-module _ (g : Graph) (bound : List ℤ) (P : Prices) where
-  testable : Sound g → Bounded g bound → PriceLengths g P → Testable g bound P
-  testable S B L = record {
-    prices = record {
-      edges = record {
-        few = omega (arith, S .rowLong, S .fewEdges);
-        same = omega (arith, S .rowLong, S .columnLong);
-        each = λ e l.
-            let k : e < g .edges = omega (arith, S .rowLong) in
-            record {
-              row = S .rowRange e k .least;
-              column = S .columnRange e k .least;
-              first = omega (arith, S .ends .first e k, S .fewVertices);
-              second = omega (arith, S .ends .second e k, S .fewVertices);
-            };
-      };
-      first = λ e l. let k : e < g .edges = omega (arith, S .rowLong) in omega (arith, S .ends .first e k, L .vertex);
-      second = λ e l. let k : e < g .edges = omega (arith, S .rowLong) in omega (arith, S .ends .second e k, L .vertex);
-      own = omega (arith, L .edge, S .rowLong);
-    };
-    bounds = record { few = S .fewVertices; long = B .long; each = B .range };
-    row = S .rowLong;
-    weight = S .weightLong;
-    vertex = L .vertex;
-    set = L .set;
-    setVertices = L .setVertices;
-    setEdges = L .setEdges;
-  }
-
-  -- The test of the odd sets passes: there are at most 16.
-  pub few-sets : lowest (min (P .sets) 17) (λ s. ltb s 16 && keepsRules g bound P s) ≡ none → P .sets ≤ 16
-  few-sets e = elim (decLt 16 (P .sets)) [
-    | yes h ↦ absurd (true≢false (sym (lowest-none (min (P .sets) 17) (λ s. ltb s 16 && keepsRules g bound P s) e 16 (omega arith))))
-    | no h ↦ omega (arith, h)
-  ]
-
-  pub sets-fit : Testable g bound P → P .sets ≤ 16 → SetsFit (P .sets) (P .set) (P .setVertices) (P .setEdges)
-  sets-fit T few = record { few = few; price = T .set; vertices = T .setVertices; edges = T .setEdges }
-
-  -- The positions of prices fit.
-  pub price-place : (f : ℕ → Bool) {k : ℕ} → Testable g bound P → P .sets < 2 ^ 32 → lowest (length (allPrices P)) f ≡ some k → k < 2 ^ 63
-  price-place f {k} T few e =
-      omega
-      (arith, lowest-some (length (allPrices P)) f k e .among, length-append (P .vertex) (P .edge ++ P .set), length-append (P .edge) (P .set), T .vertex, T .set, T .bounds .few, T .prices .own, T .prices .edges .few)
+use Rattle.dual.specs.Prices.{Prices}
+use Rattle.dual.specs.Measure.{measure, measures, measureLengths, priceTest, setTest, coverTest}
+use Rattle.duality.proofs.Passed.{PriceLengths}
+use Rattle.checks.specs.declared.Check.{Check}
+use Rattle.checks.specs.declared.Check.the-variants as Check
+use Rattle.checks.specs.Checks.{checkSays}
+use Rattle.measure.specs.Tables.{subgraphTests}
+use Rattle.measure.proofs.Tests.{part-refuses, part-passes}
 
 module _ (g : Graph) (bound : List ℤ) (x : List ℕ) (P : Prices) where
-  -- The test of the lengths.
-  pub record LengthsHold : Type 0 where
-    pub graph : graphLengths g ≡ true
-    pub bounds : eqb (length bound) (vertices g) ≡ true
-    pub subgraph : SubgraphLent g bound x
+  -- The lengths that are not the graph's.
+  abbrev pub lengthsBesides : Bool
+  lengthsBesides =
+      eqb (length bound) (vertices g) && eqb (length x) (g .edges) && eqb (length (P .vertex)) (vertices g)
+      && eqb (length (P .edge)) (g .edges) && eqb (length (P .set)) (P .sets) && eqb (length (P .setVertices)) (2 * P .sets)
+      && eqb (length (P .setEdges)) (16 * P .sets)
+
+  -- What is shown before the degrees are counted.
+  pub record Shown : Type 0 where
+    pub passed : Passed g
+    pub bounded : Bounded (vertices g) bound
+    pub marks : MarksHold (g .edges) x
+    pub lengths : PriceLengths g P
+
+  pub record OthersHold : Type 0 where
+    pub bounds : length bound ≡ vertices g
+    pub marks : length x ≡ g .edges
     pub prices : PriceLengths g P
 
-  pub lengths-hold : measureLengths g bound x P ≡ true → LengthsHold
-  lengths-hold e =
+  pub others-hold : lengthsBesides ≡ true → OthersHold
+  others-hold e =
       let h =
-      held (eqb (length (g .row)) (g .edges))
-      (eqb (length (g .column)) (g .edges) ∷ eqb (length (g .weight)) (g .edges) ∷ eqb (length bound) (vertices g) ∷ eqb (length x) (g .edges)
-      ∷ eqb (length (P .vertex)) (vertices g) ∷ eqb (length (P .edge)) (g .edges) ∷ eqb (length (P .set)) (P .sets)
+      held (eqb (length bound) (vertices g))
+      (eqb (length x) (g .edges) ∷ eqb (length (P .vertex)) (vertices g) ∷ eqb (length (P .edge)) (g .edges) ∷ eqb (length (P .set)) (P .sets)
       ∷ eqb (length (P .setVertices)) (2 * P .sets) ∷ eqb (length (P .setEdges)) (16 * P .sets) ∷ [])
       e in
-      let lent = h .1 .1 .1 in
       record {
-        graph = ap (λ (b : Bool). b && eqb (length (g .column)) (g .edges) && eqb (length (g .weight)) (g .edges)) (h .0) ∙ ap (λ (b : Bool). b && eqb (length (g .weight)) (g .edges)) (h .1 .0) ∙ h .1 .1 .0;
-        bounds = lent .0;
-        subgraph = record {
-          row = eqb-true (length (g .row)) (g .edges) (h .0);
-          column = eqb-true (length (g .column)) (g .edges) (h .1 .0);
-          weight = eqb-true (length (g .weight)) (g .edges) (h .1 .1 .0);
-          bounds = eqb-true (length bound) (vertices g) (lent .0);
-          marks = eqb-true (length x) (g .edges) (lent .1 .0);
-        };
+        bounds = eqb-true (length bound) (vertices g) (h .0);
+        marks = eqb-true (length x) (g .edges) (h .1 .0);
         prices = record {
-          vertex = eqb-true (length (P .vertex)) (vertices g) (lent .1 .1 .0);
-          edge = eqb-true (length (P .edge)) (g .edges) (lent .1 .1 .1 .0);
-          set = eqb-true (length (P .set)) (P .sets) (lent .1 .1 .1 .1 .0);
-          setVertices = eqb-true (length (P .setVertices)) (2 * P .sets) (lent .1 .1 .1 .1 .1 .0);
-          setEdges = eqb-true (length (P .setEdges)) (16 * P .sets) (lent .1 .1 .1 .1 .1 .1 .0);
+          vertex = eqb-true (length (P .vertex)) (vertices g) (h .1 .1 .0);
+          edge = eqb-true (length (P .edge)) (g .edges) (h .1 .1 .1 .0);
+          set = eqb-true (length (P .set)) (P .sets) (h .1 .1 .1 .1 .0);
+          setVertices = eqb-true (length (P .setVertices)) (2 * P .sets) (h .1 .1 .1 .1 .1 .0);
+          setEdges = eqb-true (length (P .setEdges)) (16 * P .sets) (h .1 .1 .1 .1 .1 .1 .0);
         };
       }
 
-  -- Where the first tests pass, the prices can be tested.
-  pub lent-passed : passing (once LentLength (measureLengths g bound x P) ∷ subgraphTests g bound x) accepted ≡ accepted → Testable g bound P
-  lent-passed e =
-      let p = passes (once LentLength (measureLengths g bound x P) ∷ subgraphTests g bound x) accepted tt e .0 in
-      let L = lengths-hold (p .0 0 (omega arith)) in
-      let q = passes-split (graphTests g) (boundTest g bound ∷ markTest g x ∷ degreeTest g bound x ∷ []) (p .1) in
-      testable g bound P (graph-passed g (L .graph) (q .0)) (bound-passed g bound (L .bounds) (q .1 .0, tt)) (L .prices)
+  -- The call's tests, with the lengths apart.
+  lengths-apart : measureLengths g bound x P ≡ graphLengths g && lengthsBesides
+  lengths-apart = go (graphLengths g)
+    where
+      go : (b : Bool) → b && eqb (length bound) (vertices g) && eqb (length x) (g .edges) && eqb (length (P .vertex)) (vertices g)
+          && eqb (length (P .edge)) (g .edges) && eqb (length (P .set)) (P .sets) && eqb (length (P .setVertices)) (2 * P .sets)
+          && eqb (length (P .setEdges)) (16 * P .sets) ≡ b && lengthsBesides
+      go true = refl
+      go false = refl
 
-  -- Where all pass, the subgraph can be measured.
-  pub all-passed : {M : Measures} → MeasurePassed g bound x P M → Measurable g bound x P
-  all-passed p = record {
-    tested = testable g bound P (p .sound) (p .bounded) (p .priced .lengths);
-    few = p .priced .fewSets;
-    marks = record { few = p .sound .fewEdges; long = p .feasible .long; each = p .feasible .marks };
-    degrees = λ v l. omega (order, p .feasible .within v l, p .bounded .range v l .1);
-  }
+  -- The tests of the degrees and the prices, and the last two.
+  abbrev pub priceTests : List Test
+  priceTests = degreeTest g bound x ∷ priceTest P ∷ []
+
+  abbrev pub lastTests : List Test
+  lastTests = setTest g bound P ∷ coverTest g P ∷ []
+
+  call-is : passing (subgraphTests g bound x lengthsBesides ++ (priceTests ++ lastTests)) (yields (measures g bound x P)) ≡ measure g bound x P
+  unfolding measure
+  call-is =
+      ap (λ c. passing (once LentLength c ∷ (graphTests g ++ (boundTest g bound ∷ markTest g x ∷ (priceTests ++ lastTests)))) (yields (measures g bound x P)))
+      (sym lengths-apart)
+
+  -- The first tests are made, with the other lengths as b.
+  module _ {b : Bool} (r : Check) (is : b ≡ lengthsBesides) (say : checkSays r ≡ passing (subgraphTests g bound x b) (yields tt)) where
+    said : checkSays r ≡ passing (subgraphTests g bound x lengthsBesides) (yields tt)
+    said = say ∙ ap (λ c. passing (subgraphTests g bound x c) (yields tt)) is
+
+    pub first-refused : {f : Refusal} → r ≡ Check.Refused f → refuses (f .fault) (f .place) ≡ measure g bound x P
+    first-refused e =
+        part-refuses (subgraphTests g bound x lengthsBesides) (priceTests ++ lastTests) (yields (measures g bound x P)) said e ∙ call-is
+
+    module _ (passed : r ≡ Check.Passed) where
+      pub shown : Shown
+      shown =
+          let p = passes (subgraphTests g bound x lengthsBesides) (yields tt) tt (sym said ∙ ap checkSays passed) .0 in
+          let l = both (graphLengths g) lengthsBesides (p .0 0 (omega arith)) in
+          let h = others-hold (l .1) in
+          let q = passes-split (graphTests g) (boundTest g bound ∷ markTest g x ∷ []) (p .1) in
+          record {
+            passed = graph-passed g (l .0) (q .0);
+            bounded = bounds-passed g bound (h .bounds) (q .1 .0, tt);
+            marks = marks-passed g x (h .marks) (q .1 .1 .0, tt);
+            lengths = h .prices;
+          }
+
+      -- The degrees and the prices are tested.
+      module _ (q : Check) (says : checkSays q ≡ passing priceTests (yields tt)) where
+        pub second-refused : {f : Refusal} → q ≡ Check.Refused f → refuses (f .fault) (f .place) ≡ measure g bound x P
+        second-refused e =
+            part-passes (subgraphTests g bound x lengthsBesides) (priceTests ++ lastTests) (yields (measures g bound x P)) said passed
+            (part-refuses priceTests lastTests (yields (measures g bound x P)) says e)
+            ∙ call-is
+
+        pub last-decide : q ≡ Check.Passed → {v : Outcome Measures} → v ≡ passing lastTests (yields (measures g bound x P)) → v ≡ measure g bound x P
+        last-decide e h =
+            part-passes (subgraphTests g bound x lengthsBesides) (priceTests ++ lastTests) (yields (measures g bound x P)) said passed
+            (part-passes priceTests lastTests (yields (measures g bound x P)) says e h)
+            ∙ call-is

@@ -2,46 +2,41 @@
 // The words `set_vertices`, 2 a set, mark vertices, and `set_edges`, 16 a set, mark edges.
 use checks::Check;
 use checks::Lowest;
+use checks::both;
 use dual::MeasureAnswer;
 use dual::Measures;
+use graph::EDGE_WORDS;
 use graph::Fault;
-use graph::Kind;
+use graph::MOST_EDGES;
+use graph::MOST_SETS;
+use graph::MOST_VERTICES;
 use graph::Refusal;
-ghost use Prim.Native.Nat.{suc, _^_, _≤_, _<_};
+use graph::Shape;
+use graph::VERTEX_WORDS;
+ghost use Prim.Native.Nat.{ℕ, _+_, _*_, _^_, _≤_, _<_};
 ghost use mathlib.Core.Path.{_≡_};
-ghost use mathlib.Core.Bool.{_&&_};
+ghost use mathlib.Core.Bool.{true, _&&_};
 ghost use mathlib.Core.List.{[], _∷_};
 ghost use lib.Dec.{eqb};
-ghost use lib.ListN.{length};
+ghost use lib.IntN.{pos};
+ghost use lib.ListN.{length, getD};
+ghost use lib.Signed.{leZ};
 ghost use Rattle.integers.specs.Integer.{Within};
-ghost use Rattle.graph.specs.declared.Fault.the-variants.{LentLength};
-ghost use Rattle.graph.specs.Graph.{verticesOf};
-ghost use Rattle.graph.specs.Refusal.{yields, refuses, once, passing};
-ghost use Rattle.dual.specs.Gap.{totalOf, vertexSlack, setSlack, edgeSlack, coverSlack};
+ghost use Rattle.graph.specs.declared.Fault.the-variants.{Degree};
+ghost use Rattle.graph.specs.Limits.{mostVertices, mostEdges, vertexWords, edgeWords};
+ghost use Rattle.graph.specs.Refusal.{yields, each, passing};
+ghost use Rattle.graph.specs.Graph.{graphOf, verticesIn, boundAt};
+ghost use Rattle.graph.specs.Passed.{Bounded, MarksHold};
+ghost use Rattle.dual.specs.Prices.{pricesOf};
 ghost use Rattle.dual.specs.Measure as dual-measure;
-ghost use Rattle.dual.specs.Measure.{measures, measureLengths, measureTests, measureSays};
-ghost use Rattle.checks.specs.Checks.{checkSays, graphOf};
-ghost use Rattle.sets.specs.Lent.{pricesOf, BoundsFit};
-ghost use Rattle.sums.specs.Lent.{SetsFit};
-ghost use Rattle.measure.specs.Tests.{subgraphTests, pricesTests};
-ghost use Rattle.measure.specs.Lent.{SubgraphLent, Testable, Measurable};
+ghost use Rattle.dual.specs.Measure.{priceTest, measureSays};
+ghost use Rattle.checks.specs.Checks.{checkSays};
+ghost use Rattle.sums.specs.Lent.{PricesLent};
+ghost use Rattle.measure.specs.Tables.{subgraphTests, totalBy, measuresBy};
 
-// Whether all was right so far and a length is just n.
-fn same(before: bool, length: usize, n: u64) -> bool
-    ensures { λ r. ⌜ r ≡ (before && eqb length n) ⌝ }
-{
-    if before { length as u64 == n } else { false }
-}
-
-// Whether what is lent has just the lengths that n, m and the number of sets give.
-fn lengths_right(
-    kind: Kind,
-    rows: u32,
-    columns: u32,
-    edges: u32,
-    row: &[u32],
-    column: &[u32],
-    weight: &[i32],
+// Whether bounds, marks, prices and odd sets have just the lengths that n, m and the number of sets give.
+fn others_match(
+    s: Shape,
     bound: &[i32],
     chosen: &[u8],
     vertex_price: &[i32],
@@ -51,412 +46,134 @@ fn lengths_right(
     set_vertices: &[u64],
     set_edges: &[u64],
 ) -> bool
-    ensures { λ r. ⌜ r ≡ measureLengths (graphOf kind rows columns edges (now (row .entry)) (now (column .entry)) (now (weight .entry))) (now (bound .entry)) (now (chosen .entry)) (pricesOf (now («vertex_price» .entry)) (now («edge_price» .entry)) sets (now («set_price» .entry)) (now («set_vertices» .entry)) (now («set_edges» .entry))) ⌝ }
+    ensures { λ r. ⌜ r ≡ (eqb (length (now (bound .entry))) (verticesIn s) && eqb (length (now (chosen .entry))) (s .edges) && eqb (length (now («vertex_price» .entry))) (verticesIn s) && eqb (length (now («edge_price» .entry))) (s .edges) && eqb (length (now («set_price» .entry))) sets && eqb (length (now («set_vertices» .entry))) (vertexWords * sets) && eqb (length (now («set_edges» .entry))) (edgeWords * sets)) ⌝ }
 {
-    let n = checks::vertex_count(kind, rows, columns);
-    let m = edges as u64;
-    let count = sets as u64;
-    let graph = same(
-        same(same(true, row.len(), m), column.len(), m),
-        weight.len(),
-        m,
+    let n = checks::vertex_count(s) as usize;
+    let m = s.edges as usize;
+    let count = sets as usize;
+    let subgraph = both(bound.len() == n, chosen.len() == m);
+    let prices = both(
+        both(subgraph, vertex_price.len() == n),
+        edge_price.len() == m,
     );
-    let subgraph = same(same(graph, bound.len(), n), chosen.len(), m);
-    let prices = same(same(subgraph, vertex_price.len(), n), edge_price.len(), m);
-    let sets_lent = same(
-        same(prices, set_price.len(), count),
-        set_vertices.len(),
-        2 * count,
-    );
-    same(sets_lent, set_edges.len(), 16 * count)
+    let words = set_vertices.len() == VERTEX_WORDS * count;
+    let odd = both(both(prices, set_price.len() == count), words);
+    both(odd, set_edges.len() == EDGE_WORDS * count)
 }
 
-// The refusal of item k, whose place counts from 1.
-fn refused(fault: Fault, k: usize) -> Check
-    requires { ⌜ k < 2 ^ 63 ⌝ }
-    ensures { λ r. ⌜ checkSays r ≡ refuses fault (suc k) ⌝ }
+// The tests of the lengths, of which others tells the rest, of the graph's numbers, the bounds and the marks, in their order.
+fn check_subgraph(
+    s: Shape,
+    row: &[u32],
+    column: &[u32],
+    weight: &[i32],
+    bound: &[i32],
+    chosen: &[u8],
+    others: bool,
+) -> Check
+    requires { ⌜ (others ≡ true → (length (now bound) ≡ verticesIn s) × (length (now chosen) ≡ s .edges)) ⌝ }
+    ensures { λ r. ⌜ checkSays r ≡ passing (subgraphTests (graphOf s (now (row .entry)) (now (column .entry)) (now (weight .entry))) (now (bound .entry)) (now (chosen .entry)) others) (yields tt) ⌝ }
 {
-    Check::Refused(Refusal {
+    let graph = lent::check_lent(s, row, column, weight, others);
+    if let Check::Refused(r) = graph {
+        return Check::Refused(r);
+    }
+    if let Lowest::At(v) = checks::lowest_bound(bound) {
+        return checks::refused_item(Fault::Bound, v);
+    }
+    if let Lowest::At(e) = checks::lowest_mark(chosen) {
+        return checks::refused_item(Fault::Mark, e);
+    }
+    Check::Passed
+}
+
+// The tests of the degrees and the prices, in their order.
+fn check_prices(
+    degree: [u32; MOST_VERTICES],
+    bound: &[i32],
+    vertex_price: &[i32],
+    edge_price: &[i32],
+    set_price: &[i32],
+) -> Check
+    requires { ⌜ (length (now bound) ≤ mostVertices) × (length (now «vertex_price») + (length (now «edge_price») + length (now «set_price»)) < 2 ^ 40) ⌝ }
+    ensures { λ r. ⌜ checkSays r ≡ passing (each Degree (length (now (bound .entry))) (λ v. leZ (pos (getD degree v 0)) (boundAt (now (bound .entry)) v)) ∷ priceTest (pricesOf (now («vertex_price» .entry)) (now («edge_price» .entry)) 0 (now («set_price» .entry)) [] []) ∷ []) (yields tt) ⌝ }
+{
+    if let Lowest::At(v) = checks::lowest_over(degree, bound) {
+        return checks::refused_item(Fault::Degree, v);
+    }
+    if let Lowest::At(k) = checks::lowest_price(vertex_price, edge_price, set_price) {
+        return checks::refused_item(Fault::Price, k);
+    }
+    Check::Passed
+}
+
+// The prices' total.
+fn total_of(
+    s: Shape,
+    bound: &[i32],
+    vertex_price: &[i32],
+    edge_price: &[i32],
+    sets: u32,
+    set_price: &[i32],
+    load: [u32; MOST_SETS],
+) -> i64
+    requires { ⌜ (verticesIn s ≤ mostVertices) × Bounded (verticesIn s) (now bound) × (s .edges ≤ mostEdges) ⌝ }
+    requires { ⌜ PricesLent s (now «vertex_price») (now «edge_price») sets (now «set_price») × ((k : ℕ) → k < sets → getD load k 0 ≤ 2 ^ 16) ⌝ }
+    ensures { λ r. ⌜ (r ≡ totalBy (graphOf s [] [] []) (now (bound .entry)) (pricesOf (now («vertex_price» .entry)) (now («edge_price» .entry)) sets (now («set_price» .entry)) [] []) load) × Within (2 ^ 60) r ⌝ }
+{
+    let vertices = sums::vertex_total(s, bound, vertex_price);
+    let odd = sums::set_total(sets, load, set_price);
+    let own = sums::edge_total(s.edges, edge_price);
+    integers::add(integers::add(vertices, odd), own)
+}
+
+// The seven numbers, from the tables of degrees, loads, chosen edges covered by each odd set, and cover.
+fn numbers(
+    s: Shape,
+    weight: &[i32],
+    bound: &[i32],
+    chosen: &[u8],
+    vertex_price: &[i32],
+    edge_price: &[i32],
+    sets: u32,
+    set_price: &[i32],
+    degree: [u32; MOST_VERTICES],
+    load: [u32; MOST_SETS],
+    covered: [u32; MOST_SETS],
+    cover: [i64; MOST_EDGES],
+) -> Measures
+    requires { ⌜ (verticesIn s ≤ mostVertices) × Bounded (verticesIn s) (now bound) × (s .edges ≤ mostEdges) × (length (now weight) ≡ s .edges) × MarksHold (s .edges) (now chosen) ⌝ }
+    requires { ⌜ PricesLent s (now «vertex_price») (now «edge_price») sets (now «set_price») ⌝ }
+    requires { ⌜ ((v : ℕ) → v < verticesIn s → getD degree v 0 ≤ 2 ^ 16) × ((k : ℕ) → k < sets → (getD load k 0 ≤ 2 ^ 16) × (getD covered k 0 ≤ 2 ^ 16)) × ((e : ℕ) → e < s .edges → Within (2 ^ 36) (getD cover e (pos 0))) ⌝ }
+    ensures { λ r. ⌜ r ≡ measuresBy (graphOf s [] [] (now (weight .entry))) (now (bound .entry)) (now (chosen .entry)) (pricesOf (now («vertex_price» .entry)) (now («edge_price» .entry)) sets (now («set_price» .entry)) [] []) degree load covered cover ⌝ }
+{
+    let total = total_of(s, bound, vertex_price, edge_price, sets, set_price, load);
+    let chosen_weight = sums::weight_of(s.edges, weight, chosen);
+    Measures {
+        weight: chosen_weight,
+        total,
+        vertices: sums::vertex_slack(s, degree, bound, vertex_price),
+        sets: sums::set_slack(sets, load, covered, set_price),
+        edges: sums::edge_slack(s.edges, chosen, edge_price),
+        cover: sums::cover_slack(s.edges, cover, weight, chosen),
+        gap: integers::subtract(total, chosen_weight),
+    }
+}
+
+// The answer that refuses item k, whose place counts from 1.
+fn refused_at(fault: Fault, k: usize) -> MeasureAnswer
+    requires { ⌜ k < 2 ^ 40 ⌝ }
+    ensures { λ r. ⌜ r ≡ MeasureAnswer.Refused (record { fault = fault; place = k + 1 }) ⌝ }
+{
+    MeasureAnswer::Refused(Refusal {
         fault,
         place: k as u64 + 1,
     })
 }
 
-// The tests of the graph's numbers, the bounds and the subgraph, in their order.
-fn check_subgraph(
-    kind: Kind,
-    rows: u32,
-    columns: u32,
-    edges: u32,
-    row: &[u32],
-    column: &[u32],
-    weight: &[i32],
-    bound: &[i32],
-    chosen: &[u8],
-) -> Check
-    requires { ⌜ SubgraphLent (graphOf kind rows columns edges (now row) (now column) (now weight)) (now bound) (now chosen) ⌝ }
-    ensures { λ r. ⌜ checkSays r ≡ passing (subgraphTests (graphOf kind rows columns edges (now (row .entry)) (now (column .entry)) (now (weight .entry))) (now (bound .entry)) (now (chosen .entry))) (yields tt) ⌝ }
-{
-    let graph = checks::check_graph(kind, rows, columns, edges, row, column, weight);
-    if let Check::Refused(r) = graph {
-        return Check::Refused(r);
-    }
-    if let Lowest::At(v) = checks::lowest_bound(bound) {
-        return refused(Fault::Bound, v);
-    }
-    if let Lowest::At(e) = checks::lowest_mark(chosen) {
-        return refused(Fault::Mark, e);
-    }
-    let degree = checks::degrees(kind, rows, columns, row, column, chosen);
-    if let Lowest::At(v) = checks::lowest_over(degree, bound) {
-        return refused(Fault::Degree, v);
-    }
-    Check::Passed
-}
-
-// The test of the lengths, and then those of the subgraph.
-fn check_lent(
-    kind: Kind,
-    rows: u32,
-    columns: u32,
-    edges: u32,
-    row: &[u32],
-    column: &[u32],
-    weight: &[i32],
-    bound: &[i32],
-    chosen: &[u8],
-    vertex_price: &[i32],
-    edge_price: &[i32],
-    sets: u32,
-    set_price: &[i32],
-    set_vertices: &[u64],
-    set_edges: &[u64],
-) -> Check
-    ensures { λ r. ⌜ checkSays r ≡ passing (once LentLength (measureLengths (graphOf kind rows columns edges (now (row .entry)) (now (column .entry)) (now (weight .entry))) (now (bound .entry)) (now (chosen .entry)) (pricesOf (now («vertex_price» .entry)) (now («edge_price» .entry)) sets (now («set_price» .entry)) (now («set_vertices» .entry)) (now («set_edges» .entry)))) ∷ subgraphTests (graphOf kind rows columns edges (now (row .entry)) (now (column .entry)) (now (weight .entry))) (now (bound .entry)) (now (chosen .entry))) (yields tt) ⌝ }
-{
-    if lengths_right(
-        kind,
-        rows,
-        columns,
-        edges,
-        row,
-        column,
-        weight,
-        bound,
-        chosen,
-        vertex_price,
-        edge_price,
-        sets,
-        set_price,
-        set_vertices,
-        set_edges,
-    ) {
-        check_subgraph(
-            kind,
-            rows,
-            columns,
-            edges,
-            row,
-            column,
-            weight,
-            bound,
-            chosen,
-        )
-    } else {
-        Check::Refused(Refusal {
-            fault: Fault::LentLength,
-            place: 0,
-        })
-    }
-}
-
-// The tests of the prices, the odd sets and the cover, in their order.
-fn check_prices(
-    kind: Kind,
-    rows: u32,
-    columns: u32,
-    edges: u32,
-    row: &[u32],
-    column: &[u32],
-    weight: &[i32],
-    bound: &[i32],
-    vertex_price: &[i32],
-    edge_price: &[i32],
-    sets: u32,
-    set_price: &[i32],
-    set_vertices: &[u64],
-    set_edges: &[u64],
-) -> Check
-    requires { ⌜ Testable (graphOf kind rows columns edges (now row) (now column) (now weight)) (now bound) (pricesOf (now «vertex_price») (now «edge_price») sets (now «set_price») (now «set_vertices») (now «set_edges»)) ⌝ }
-    ensures { λ r. ⌜ checkSays r ≡ passing (pricesTests (graphOf kind rows columns edges (now (row .entry)) (now (column .entry)) (now (weight .entry))) (now (bound .entry)) (pricesOf (now («vertex_price» .entry)) (now («edge_price» .entry)) sets (now («set_price» .entry)) (now («set_vertices» .entry)) (now («set_edges» .entry)))) (yields tt) ⌝ }
-{
-    if let Lowest::At(k) = cover::lowest_price(vertex_price, edge_price, set_price) {
-        return refused(Fault::Price, k);
-    }
-    let set = sets::lowest_set(
-        kind,
-        rows,
-        columns,
-        edges,
-        row,
-        column,
-        bound,
-        sets,
-        set_vertices,
-        set_edges,
-    );
-    if let Lowest::At(s) = set {
-        return refused(Fault::OddSet, s);
-    }
-    let edge = cover::lowest_uncovered(
-        kind,
-        rows,
-        row,
-        column,
-        weight,
-        vertex_price,
-        edge_price,
-        sets,
-        set_price,
-        set_vertices,
-        set_edges,
-    );
-    if let Lowest::At(e) = edge {
-        return refused(Fault::Uncovered, e);
-    }
-    Check::Passed
-}
-
-// All tests of the measuring call, in their order.
-fn check(
-    kind: Kind,
-    rows: u32,
-    columns: u32,
-    edges: u32,
-    row: &[u32],
-    column: &[u32],
-    weight: &[i32],
-    bound: &[i32],
-    chosen: &[u8],
-    vertex_price: &[i32],
-    edge_price: &[i32],
-    sets: u32,
-    set_price: &[i32],
-    set_vertices: &[u64],
-    set_edges: &[u64],
-) -> Check
-    ensures { λ r. ⌜ checkSays r ≡ passing (measureTests (graphOf kind rows columns edges (now (row .entry)) (now (column .entry)) (now (weight .entry))) (now (bound .entry)) (now (chosen .entry)) (pricesOf (now («vertex_price» .entry)) (now («edge_price» .entry)) sets (now («set_price» .entry)) (now («set_vertices» .entry)) (now («set_edges» .entry)))) (yields tt) ⌝ }
-{
-    let lent = check_lent(
-        kind,
-        rows,
-        columns,
-        edges,
-        row,
-        column,
-        weight,
-        bound,
-        chosen,
-        vertex_price,
-        edge_price,
-        sets,
-        set_price,
-        set_vertices,
-        set_edges,
-    );
-    if let Check::Refused(r) = lent {
-        return Check::Refused(r);
-    }
-    check_prices(
-        kind,
-        rows,
-        columns,
-        edges,
-        row,
-        column,
-        weight,
-        bound,
-        vertex_price,
-        edge_price,
-        sets,
-        set_price,
-        set_vertices,
-        set_edges,
-    )
-}
-
-// The prices' total.
-fn total_of(
-    kind: Kind,
-    rows: u32,
-    columns: u32,
-    edges: u32,
-    bound: &[i32],
-    vertex_price: &[i32],
-    edge_price: &[i32],
-    sets: u32,
-    set_price: &[i32],
-    set_vertices: &[u64],
-    set_edges: &[u64],
-) -> i64
-    requires { ⌜ BoundsFit (verticesOf kind rows columns) (now bound) × (edges ≤ 1024) ⌝ }
-    requires { ⌜ (length (now «vertex_price») ≡ verticesOf kind rows columns) × (length (now «edge_price») ≡ edges) ⌝ }
-    requires { ⌜ SetsFit sets (now «set_price») (now «set_vertices») (now «set_edges») ⌝ }
-    ensures { λ r. ⌜ (r ≡ totalOf (graphOf kind rows columns edges [] [] []) (now (bound .entry)) (pricesOf (now («vertex_price» .entry)) (now («edge_price» .entry)) sets (now («set_price» .entry)) (now («set_vertices» .entry)) (now («set_edges» .entry)))) × Within (2 ^ 60) r ⌝ }
-{
-    let vertices = sums::vertex_total(bound, vertex_price);
-    let odd = sums::set_total(
-        kind,
-        rows,
-        columns,
-        edges,
-        bound,
-        sets,
-        set_price,
-        set_vertices,
-        set_edges,
-    );
-    let own = sums::edge_total(edge_price);
-    integers::add(integers::add(vertices, odd), own)
-}
-
-// The slacks of vertices, odd sets, edges and cover.
-struct Slacks {
-    vertices: i64,
-    sets: i64,
-    edges: i64,
-    cover: i64,
-}
-
-// The four slacks.
-fn slacks_of(
-    kind: Kind,
-    rows: u32,
-    columns: u32,
-    edges: u32,
-    row: &[u32],
-    column: &[u32],
-    weight: &[i32],
-    bound: &[i32],
-    chosen: &[u8],
-    vertex_price: &[i32],
-    edge_price: &[i32],
-    sets: u32,
-    set_price: &[i32],
-    set_vertices: &[u64],
-    set_edges: &[u64],
-) -> Slacks
-    requires { ⌜ Measurable (graphOf kind rows columns edges (now row) (now column) (now weight)) (now bound) (now chosen) (pricesOf (now «vertex_price») (now «edge_price») sets (now «set_price») (now «set_vertices») (now «set_edges»)) ⌝ }
-    ensures { λ r. ⌜ (r .vertices ≡ vertexSlack (graphOf kind rows columns edges (now (row .entry)) (now (column .entry)) (now (weight .entry))) (now (bound .entry)) (now (chosen .entry)) (pricesOf (now («vertex_price» .entry)) (now («edge_price» .entry)) sets (now («set_price» .entry)) (now («set_vertices» .entry)) (now («set_edges» .entry)))) × (r .sets ≡ setSlack (graphOf kind rows columns edges (now (row .entry)) (now (column .entry)) (now (weight .entry))) (now (bound .entry)) (now (chosen .entry)) (pricesOf (now («vertex_price» .entry)) (now («edge_price» .entry)) sets (now («set_price» .entry)) (now («set_vertices» .entry)) (now («set_edges» .entry)))) × (r .edges ≡ edgeSlack (graphOf kind rows columns edges (now (row .entry)) (now (column .entry)) (now (weight .entry))) (now (chosen .entry)) (pricesOf (now («vertex_price» .entry)) (now («edge_price» .entry)) sets (now («set_price» .entry)) (now («set_vertices» .entry)) (now («set_edges» .entry)))) × (r .cover ≡ coverSlack (graphOf kind rows columns edges (now (row .entry)) (now (column .entry)) (now (weight .entry))) (now (chosen .entry)) (pricesOf (now («vertex_price» .entry)) (now («edge_price» .entry)) sets (now («set_price» .entry)) (now («set_vertices» .entry)) (now («set_edges» .entry)))) ⌝ }
-{
-    let degree = checks::degrees(kind, rows, columns, row, column, chosen);
-    let vertices = sums::vertex_slack(degree, bound, vertex_price);
-    let odd = sums::set_slack(
-        kind,
-        rows,
-        columns,
-        edges,
-        row,
-        column,
-        bound,
-        chosen,
-        sets,
-        set_price,
-        set_vertices,
-        set_edges,
-    );
-    let unchosen = sums::edge_slack(chosen, edge_price);
-    let cover = cover::cover_slack(
-        kind,
-        rows,
-        row,
-        column,
-        weight,
-        chosen,
-        vertex_price,
-        edge_price,
-        sets,
-        set_price,
-        set_vertices,
-        set_edges,
-    );
-    Slacks {
-        vertices,
-        sets: odd,
-        edges: unchosen,
-        cover,
-    }
-}
-
-// The seven numbers.
-fn numbers(
-    kind: Kind,
-    rows: u32,
-    columns: u32,
-    edges: u32,
-    row: &[u32],
-    column: &[u32],
-    weight: &[i32],
-    bound: &[i32],
-    chosen: &[u8],
-    vertex_price: &[i32],
-    edge_price: &[i32],
-    sets: u32,
-    set_price: &[i32],
-    set_vertices: &[u64],
-    set_edges: &[u64],
-) -> Measures
-    requires { ⌜ Measurable (graphOf kind rows columns edges (now row) (now column) (now weight)) (now bound) (now chosen) (pricesOf (now «vertex_price») (now «edge_price») sets (now «set_price») (now «set_vertices») (now «set_edges»)) ⌝ }
-    ensures { λ r. ⌜ r ≡ measures (graphOf kind rows columns edges (now (row .entry)) (now (column .entry)) (now (weight .entry))) (now (bound .entry)) (now (chosen .entry)) (pricesOf (now («vertex_price» .entry)) (now («edge_price» .entry)) sets (now («set_price» .entry)) (now («set_vertices» .entry)) (now («set_edges» .entry))) ⌝ }
-{
-    let chosen_weight = sums::weight_of(weight, chosen);
-    let total = total_of(
-        kind,
-        rows,
-        columns,
-        edges,
-        bound,
-        vertex_price,
-        edge_price,
-        sets,
-        set_price,
-        set_vertices,
-        set_edges,
-    );
-    let slacks = slacks_of(
-        kind,
-        rows,
-        columns,
-        edges,
-        row,
-        column,
-        weight,
-        bound,
-        chosen,
-        vertex_price,
-        edge_price,
-        sets,
-        set_price,
-        set_vertices,
-        set_edges,
-    );
-    Measures {
-        weight: chosen_weight,
-        total,
-        vertices: slacks.vertices,
-        sets: slacks.sets,
-        edges: slacks.edges,
-        cover: slacks.cover,
-        gap: integers::subtract(total, chosen_weight),
-    }
-}
-
 // Measures a subgraph against prices.
 pub fn measure(
-    kind: Kind,
-    rows: u32,
-    columns: u32,
-    edges: u32,
+    s: Shape,
     row: &[u32],
     column: &[u32],
     weight: &[i32],
@@ -469,16 +186,10 @@ pub fn measure(
     set_vertices: &[u64],
     set_edges: &[u64],
 ) -> MeasureAnswer
-    ensures { λ r. ⌜ measureSays r ≡ dual-measure.measure (graphOf kind rows columns edges (now (row .entry)) (now (column .entry)) (now (weight .entry))) (now (bound .entry)) (now (chosen .entry)) (pricesOf (now («vertex_price» .entry)) (now («edge_price» .entry)) sets (now («set_price» .entry)) (now («set_vertices» .entry)) (now («set_edges» .entry))) ⌝ }
+    ensures { λ r. ⌜ measureSays r ≡ dual-measure.measure (graphOf s (now (row .entry)) (now (column .entry)) (now (weight .entry))) (now (bound .entry)) (now (chosen .entry)) (pricesOf (now («vertex_price» .entry)) (now («edge_price» .entry)) sets (now («set_price» .entry)) (now («set_vertices» .entry)) (now («set_edges» .entry))) ⌝ }
 {
-    let tests = check(
-        kind,
-        rows,
-        columns,
-        edges,
-        row,
-        column,
-        weight,
+    let others = others_match(
+        s,
         bound,
         chosen,
         vertex_price,
@@ -488,16 +199,36 @@ pub fn measure(
         set_vertices,
         set_edges,
     );
-    if let Check::Refused(r) = tests {
+    let subgraph = check_subgraph(s, row, column, weight, bound, chosen, others);
+    if let Check::Refused(r) = subgraph {
         return MeasureAnswer::Refused(r);
     }
-    MeasureAnswer::Measured(numbers(
-        kind,
-        rows,
-        columns,
-        edges,
+    let degree = checks::degrees(s, row, column, chosen);
+    let prices = check_prices(degree, bound, vertex_price, edge_price, set_price);
+    if let Check::Refused(r) = prices {
+        return MeasureAnswer::Refused(r);
+    }
+    let load = sets::load_table(s, bound, sets, set_vertices, set_edges);
+    if let Lowest::At(k) = sets::lowest_set(s, row, column, load, sets, set_vertices, set_edges) {
+        return refused_at(Fault::OddSet, k);
+    }
+    let cover = sums::cover_table(
+        s,
         row,
         column,
+        vertex_price,
+        edge_price,
+        sets,
+        set_price,
+        set_vertices,
+        set_edges,
+    );
+    if let Lowest::At(e) = sums::lowest_uncovered(s.edges, weight, cover) {
+        return refused_at(Fault::Uncovered, e);
+    }
+    let covered = sets::covered_table(s, row, column, chosen, sets, set_vertices, set_edges);
+    MeasureAnswer::Measured(numbers(
+        s,
         weight,
         bound,
         chosen,
@@ -505,7 +236,9 @@ pub fn measure(
         edge_price,
         sets,
         set_price,
-        set_vertices,
-        set_edges,
+        degree,
+        load,
+        covered,
+        cover,
     ))
 }

@@ -5,26 +5,32 @@ use mathlib.Core.List.{List, [], _∷_}
 use Prim.Native.Nat.{ℕ, _≤_, _<_}
 use native.Mathlib.Omega.{arith}
 use lib.Dec.{leb, eqb}
-use borrow.Author.Tests.{eqb-true, eq-eqb, leb-true, le-leb, not-true}
+use borrow.Author.Tests.{eqb-true, eq-eqb, leb-true, le-leb}
 use lib.ListN.{length}
 use Rattle.graph.specs.declared.Kind.{Kind}
 use Rattle.graph.specs.declared.Kind.the-variants.{Bipartite, General}
 use Rattle.graph.specs.declared.Fault.the-variants.{LentLength}
+use Rattle.graph.specs.Limits.{subgraphBytes}
 use Rattle.graph.specs.Refusal.{Outcome, yields, Test, once, passing}
-use Rattle.graph.specs.Graph.{Graph, rowAt, columnAt, upTo, sizesInRange, joined}
-use Rattle.graph.specs.Subgraph.{markAt}
+use Rattle.graph.specs.Graph.{Graph, shapeOf, rowAt, columnAt, upTo, sizesInRange}
 use Rattle.graph.specs.Tests.{graphLengths, graphTests, markTest}
 use Rattle.graph.proofs.Passing.{Passes, passes, pass}
-use Rattle.graph.proofs.Ranges.{both, _also_, held, Held, EndsHold, sizes-hold, ends-hold}
+use Rattle.graph.specs.Passed.{Sound, Passed, MarksHold}
+use Rattle.graph.proofs.Ranges.{both, _also_}
+use Rattle.graph.proofs.Passed.{graph-passed, passed-lengths, passed-tests, marks-passed, marks-test}
 use Rattle.layout.specs.SubgraphText.{subgraphText, writeSubgraph}
-use Rattle.readback.specs.Accepted.{Writable, Accepted}
+
+-- The writer accepts a graph that has passed, with marks that have passed.
+pub record Accepted (g : Graph) (x : List ℕ) : Type 0 where
+  pub passed : Passed g
+  pub marks : MarksHold (g .edges) x
 
 -- ---- what a text is yielded for
 
 module _ (g : Graph) (x : List ℕ) (n : ℕ) where
   -- The writer's tests before that of the marks, and what follows them.
   abbrev pub numberTests : List Test
-  numberTests = once LentLength (graphLengths g && eqb (length x) (g .edges) && eqb n 16384) ∷ graphTests g
+  numberTests = once LentLength (graphLengths g && eqb (length x) (g .edges) && eqb n subgraphBytes) ∷ graphTests g
 
   abbrev pub afterwards : Outcome (List ℕ)
   afterwards = passing (markTest g x ∷ []) (yields (subgraphText g x))
@@ -35,25 +41,13 @@ module _ (g : Graph) (x : List ℕ) (n : ℕ) where
 
   -- Tests that are kept show that the writer accepts.
   module _ (numbers : Passes numberTests) (marks : Passes (markTest g x ∷ [])) where
-    lengths : Held (eqb (length (g .row)) (g .edges) ∷ eqb (length (g .column)) (g .edges) ∷ eqb (length (g .weight)) (g .edges) ∷ eqb (length x) (g .edges) ∷ eqb n 16384 ∷ [])
+    lengths : (graphLengths g ≡ true) × (eqb (length x) (g .edges) ≡ true)
     lengths =
-        let h = held (eqb (length (g .row)) (g .edges)) (eqb (length (g .column)) (g .edges) ∷ eqb (length (g .weight)) (g .edges) ∷ eqb (length x) (g .edges) ∷ eqb n 16384 ∷ []) (numbers .0 0 (omega arith)) in
-        h
+        both (graphLengths g) (eqb (length x) (g .edges))
+        (both (graphLengths g && eqb (length x) (g .edges)) (eqb n subgraphBytes) (numbers .0 0 (omega arith)) .0)
 
     pub kept-accepted : Accepted g x
-    kept-accepted = record {
-      writable = record {
-        row-long = eqb-true (length (g .row)) (g .edges) (lengths .0);
-        column-long = eqb-true (length (g .column)) (g .edges) (lengths .1 .0);
-        marks-long = eqb-true (length x) (g .edges) (lengths .1 .1 .1 .0);
-        sizes = numbers .1 .0 0 (omega arith);
-        ends = numbers .1 .1 .0;
-        marks = λ e l. leb-true (markAt x e) 1 (marks .0 e l);
-      };
-      weight-long = eqb-true (length (g .weight)) (g .edges) (lengths .1 .1 .0);
-      weights = numbers .1 .1 .1 .0;
-      apart = λ e l. not-true (joined g e (rowAt g e) (columnAt g e)) (numbers .1 .1 .1 .1 .0 e l);
-    }
+    kept-accepted = record { passed = graph-passed g (lengths .0) (numbers .1); marks = marks-passed g x (eqb-true (length x) (g .edges) (lengths .1)) marks }
 
   module _ (text : List ℕ) (h : writeSubgraph g x n ≡ yields text) where
     numbers-kept : Passes numberTests
@@ -75,25 +69,15 @@ module _ (g : Graph) (x : List ℕ) (n : ℕ) where
         passes (markTest g x ∷ []) (yields (subgraphText g x)) text then-yields .1 in
         cc
 
--- ---- and back: the tests that both calls make are kept
+-- ---- and back: the writer takes what it accepts
 
-pub lengths-kept : {g : Graph} {x : List ℕ} → Accepted g x → graphLengths g ≡ true
-lengths-kept {g} a =
-    eq-eqb (length (g .row)) (g .edges) (a .writable .row-long)
-    also eq-eqb (length (g .column)) (g .edges) (a .writable .column-long)
-    also eq-eqb (length (g .weight)) (g .edges) (a .weight-long)
-
-pub tests-kept : {g : Graph} {x : List ℕ} → Accepted g x → Passes (graphTests g)
-tests-kept {g} a = (
-  λ k l. a .writable .sizes,
-  (a .writable .ends, (a .weights, ((λ e l. rw (a .apart e l)), tt))),
-)
-
-pub writes-accepted : {g : Graph} {x : List ℕ} → Accepted g x → writeSubgraph g x 16384 ≡ yields (subgraphText g x)
+pub writes-accepted : {g : Graph} {x : List ℕ} → Accepted g x → writeSubgraph g x subgraphBytes ≡ yields (subgraphText g x)
 writes-accepted {g} {x} a =
-    writes g x 16384
-    ∙ pass (numberTests g x 16384) (λ k l. lengths-kept a also eq-eqb (length x) (g .edges) (a .writable .marks-long) also refl, tests-kept a) (afterwards g x 16384)
-    ∙ pass (markTest g x ∷ []) (λ e l. le-leb (markAt x e) 1 (a .writable .marks e l), tt) (yields (subgraphText g x))
+    writes g x subgraphBytes
+    ∙ pass (numberTests g x subgraphBytes)
+    (λ k l. passed-lengths (a .passed) also eq-eqb (length x) (g .edges) (a .marks .long) also refl, passed-tests (a .passed))
+    (afterwards g x subgraphBytes)
+    ∙ pass (markTest g x ∷ []) (marks-test g x (a .marks)) (yields (subgraphText g x))
 
 -- ---- the ranges as orders
 
@@ -105,19 +89,14 @@ pub record Small (g : Graph) : Type 0 where
   pub row-small : (e : ℕ) → e < g .edges → rowAt g e ≤ 128
   pub column-small : (e : ℕ) → e < g .edges → columnAt g e ≤ 128
 
-pub small : {g : Graph} {x : List ℕ} → Writable g x → Small g
-small {g} w =
-    let s = sizes-hold (g .kind) (g .rows) (g .columns) (g .edges) (w .sizes) in
-    record {
-      rows-small = s .rows .greatest;
-      columns-small = s .columns .greatest;
-      edges-few = s .few;
-      row-small = λ e l. omega (arith, s .rows, at e l .row);
-      column-small = λ e l. omega (arith, s .columns, at e l .column);
-    }
-  where
-    at : (e : ℕ) → e < g .edges → EndsHold (g .kind) (g .rows) (g .columns) (rowAt g e) (columnAt g e)
-    at e l = ends-hold (g .kind) (g .rows) (g .columns) (rowAt g e) (columnAt g e) (w .ends e l)
+pub small : (g : Graph) → Sound (shapeOf g) (g .row) (g .column) → Small g
+small g S = record {
+  rows-small = S .sizes .rows .greatest;
+  columns-small = S .sizes .columns .greatest;
+  edges-few = S .sizes .few;
+  row-small = λ e l. omega (arith, S .sizes .rows, S .ends e l .row);
+  column-small = λ e l. omega (arith, S .sizes .columns, S .ends e l .column);
+}
 
 -- Fewer edges keep the sizes in range.
 pub sizes-fewer : (k : Kind) (r c m j : ℕ) → sizesInRange k r c m ≡ true → j ≤ m → sizesInRange k r c j ≡ true

@@ -11,11 +11,12 @@ use Rattle.integers.proofs.Sum.{sum-mono, sum-const}
 use Rattle.graph.specs.declared.Kind.{Kind}
 use Rattle.graph.specs.declared.Kind.the-variants.{Bipartite, General}
 use Rattle.graph.specs.Refusal.{yields}
-use Rattle.graph.specs.Graph.{Graph, rowAt, columnAt}
+use Rattle.graph.specs.Limits.{subgraphBytes}
+use Rattle.graph.specs.Graph.{Graph, shapeOf, rowAt, columnAt}
 use Rattle.graph.specs.Subgraph.{markAt}
+use Rattle.graph.specs.Passed.{Sound, MarksHold}
 use Rattle.layout.specs.Text.{decimal, spaced, unlines}
 use Rattle.layout.specs.SubgraphText.{chosenLines, headerText, subgraphText, writeSubgraph}
-use Rattle.readback.specs.Accepted.{Writable}
 use Rattle.readback.proofs.Accepted.{Small, small, accepted, text-is}
 use Rattle.readback.proofs.Digits.{decimal-few}
 use Rattle.readback.proofs.Pieces.{unlines-append}
@@ -23,8 +24,8 @@ use Rattle.readback.proofs.Pieces.{unlines-append}
 -- ---- the number of chosen edges
 
 -- At most one for each edge.
-pub count-le : {g : Graph} {x : List ℕ} → Writable g x → sum (g .edges) (markAt x) ≤ g .edges
-count-le {g} {x} w = omega (arith, sum-mono (g .edges) (markAt x) (λ e. 1) (w .marks), sum-const (g .edges) 1)
+pub count-le : {m : ℕ} {x : List ℕ} → MarksHold m x → sum m (markAt x) ≤ m
+count-le {m} {x} M = omega (arith, sum-mono m (markAt x) (λ e. 1) (M .each), sum-const m 1)
 
 -- ---- the lines
 
@@ -106,21 +107,23 @@ module _ {g : Graph} (x : List ℕ) (s : Small g) where
         line-le n l,
       )
 
-pub text-le : {g : Graph} {x : List ℕ} → Writable g x → length (subgraphText g x) ≤ 8256
+pub text-le : (g : Graph) (x : List ℕ) → Sound (shapeOf g) (g .row) (g .column) → MarksHold (g .edges) x → length (subgraphText g x) ≤ 8256
 unfolding subgraphText
-text-le {g} {x} w =
-    let s : Small g = small w in
+text-le g x S M =
+    let s : Small g = small g S in
     omega (
       arith,
       length-line (headerText (g .kind))
           (spaced (decimal (g .rows) ∷ decimal (g .columns) ∷ decimal (sum (g .edges) (markAt x)) ∷ []) ∷ chosenLines g x (g .edges)),
       length-line (spaced (decimal (g .rows) ∷ decimal (g .columns) ∷ decimal (sum (g .edges) (markAt x)) ∷ [])) (chosenLines g x (g .edges)),
       header-le (g .kind),
-      size-line-le (g .rows) (g .columns) (sum (g .edges) (markAt x)) (s .rows-small) (s .columns-small) (omega (arith, s .edges-few, count-le w)),
+      size-line-le (g .rows) (g .columns) (sum (g .edges) (markAt x)) (s .rows-small) (s .columns-small) (omega (arith, s .edges-few, count-le M)),
       chosen-le x s (g .edges) (omega arith),
       s .edges-few,
     )
 
 -- A text that is yielded fits the 16,384 bytes of the output, and so the 32,768 that a reader takes.
-pub text-fits : (g : Graph) (x : List ℕ) (n : ℕ) (text : List ℕ) → writeSubgraph g x n ≡ yields text → length text ≤ 16384
-text-fits g x n text h = omega (arith, text-le (accepted g x n text h .writable), ap length (text-is g x n text h))
+pub text-fits : (g : Graph) (x : List ℕ) (n : ℕ) (text : List ℕ) → writeSubgraph g x n ≡ yields text → length text ≤ subgraphBytes
+text-fits g x n text h =
+    let a = accepted g x n text h in
+    omega (arith, text-le g x (a .passed .sound) (a .marks), ap length (text-is g x n text h))

@@ -19,15 +19,18 @@ use Rattle.graph.specs.Refusal.{Outcome, yields, once, passing}
 use Rattle.graph.specs.Graph.{Graph, rowAt, columnAt, joins}
 use Rattle.graph.specs.Subgraph.{markAt}
 use Rattle.graph.specs.Tests.{graphLengths, graphTests}
-use Rattle.layout.specs.Text.{newline, onFirst, pieces, nonEmpty, words, same, sameFolded, headerWords, header, natural, twoWords, threeWords, blankLine, lineFits, noWords, textFits, decimal, spaced, lines}
+use Rattle.layout.specs.Text.{newline, onFirst, pieces, nonEmpty, words, same, sameFolded, headerWords, header, natural, twoWords, threeWords}
+use Rattle.layout.specs.Text.{blankLine, lineFits, noWords, textFits, decimal, spaced, lines}
 use Rattle.layout.specs.Lines.{Step, goes, stops, start, sizing, reading, onLine, readLines, readText}
-use Rattle.layout.specs.SubgraphText.{subgraphKind, sameKind, subgraphHeader, Marked, subgraphSizes, edgeWith, subgraphMark, subgraphEdge, subgraphLayout, readSubgraph, chosenLines, headerText, subgraphText, writeSubgraph}
-use Rattle.readback.specs.Accepted.{Accepted}
+use Rattle.layout.specs.SubgraphText.{subgraphKind, sameKind, subgraphHeader, Marked, subgraphSizes, edgeWith, subgraphMark, subgraphEdge}
+use Rattle.layout.specs.SubgraphText.{subgraphLayout, readSubgraph, chosenLines, headerText, subgraphText, writeSubgraph}
+use Rattle.graph.proofs.Passed.{passed-lengths, passed-tests}
 use Rattle.graph.proofs.Passing.{some-lowest, some-none, pass}
 use Rattle.graph.proofs.Ranges.{_also_}
-use Rattle.readback.proofs.Accepted.{Small, small, accepted, text-is, lengths-kept, tests-kept, sizes-fewer}
+use Rattle.readback.proofs.Accepted.{Accepted, Small, small, accepted, text-is, sizes-fewer}
 use Rattle.readback.proofs.Digits.{decimal-some, number-back}
-use Rattle.readback.proofs.Pieces.{Free, AllFree, all-free-append, lines-unlines, words-spaced, free-spaced, comment-free, decimal-no-newline, decimal-no-percent, decimal-no-blank, free-yes}
+use Rattle.readback.proofs.Pieces.{Free, AllFree, all-free-append, lines-unlines, words-spaced, free-spaced, comment-free, decimal-no-newline}
+use Rattle.readback.proofs.Pieces.{decimal-no-percent, decimal-no-blank, free-yes}
 use Rattle.readback.proofs.Fits.{count-le, edge-line-le, size-line-le, linesAt, chosen-none, chosen-more, text-le}
 use Rattle.readback.proofs.Reaches.{on-start, on-sizing, on-reading, Reaches, reaches-none, reaches-one, reaches-append, reaches-end}
 
@@ -116,7 +119,7 @@ edge-found {g} a n l =
     some-lowest (g .edges) (λ e. not (joins g (rowAt g n) (columnAt g n) e)) n (record {
       among = l;
       breaks = ap not (eq-eqb (rowAt g n) (rowAt g n) refl also eq-eqb (columnAt g n) (columnAt g n) refl);
-      before = λ k m. ap not (some-none n (joins g (rowAt g n) (columnAt g n)) (a .apart n l) k m);
+      before = λ k m. ap not (some-none n (joins g (rowAt g n) (columnAt g n)) (a .passed .apart n l) k m);
     })
 
 -- ---- the lines of the chosen edges
@@ -137,10 +140,10 @@ sum-prefix f n m h = let e : m ≡ n + (m - n) = omega arith in omega (arith, ap
 
 module _ {g : Graph} {x : List ℕ} (a : Accepted g x) where
   S : Small g
-  S = small (a .writable)
+  S = small g (a .passed .sound)
 
   count-few : countOf g x ≤ 1024
-  count-few = omega (arith, S .edges-few, count-le (a .writable))
+  count-few = omega (arith, S .edges-few, count-le (a .marks))
 
   module _ (n : ℕ) (l : n < g .edges) where
     abbrev lineAt : List ℕ
@@ -162,12 +165,12 @@ module _ {g : Graph} {x : List ℕ} (a : Accepted g x) where
       line-read =
           ap (subgraphEdge g (stateAt g x n))
           (two-back (rowAt g n) (columnAt g n) (omega (arith, S .row-small n l)) (omega (arith, S .column-small n l)))
-          ∙ ap (λ (t : Bool). cond t (subgraphMark (stateAt g x n) (edgeWith g (rowAt g n) (columnAt g n))) (stops Ends)) (a .writable .ends n l)
+          ∙ ap (λ (t : Bool). cond t (subgraphMark (stateAt g x n) (edgeWith g (rowAt g n) (columnAt g n))) (stops Ends)) (a .passed .sound .ends n l .test)
           ∙ ap (subgraphMark (stateAt g x n)) (edge-found a n l)
           ∙ ap (λ (t : Bool). cond t (goes (marked (countOf g x) (sum n (markAt x) + 1) (set (marksTo (g .edges) x n) n 1))) (stops SameEnds))
-          (eq-eqb (getD (marksTo (g .edges) x n) n 0) 0 (marks-clear (g .edges) x (a .writable .marks-long) n l))
+          (eq-eqb (getD (marksTo (g .edges) x n) n 0) 0 (marks-clear (g .edges) x (a .marks .long) n l))
           ∙ ap₂ (λ (k : ℕ) (ms : List ℕ). goes (marked (countOf g x) (sum n (markAt x) + k) ms)) (sym chosen)
-          (marks-set (g .edges) x (a .writable .marks-long) n l chosen)
+          (marks-set (g .edges) x (a .marks .long) n l chosen)
 
       chosen-step : onLine (subgraphLayout g) (reading (stateAt g x n)) lineAt ≡ goes (reading (stateAt g x (suc n)))
       chosen-step = on-reading (subgraphLayout g) (stateAt g x n) lineAt (stateAt g x (suc n)) line-fits line-full more-to-come line-read
@@ -175,7 +178,7 @@ module _ {g : Graph} {x : List ℕ} (a : Accepted g x) where
     unchosen-step : markAt x n ≡ 0 → stateAt g x n ≡ stateAt g x (suc n)
     unchosen-step e =
         let s : sum n (markAt x) ≡ sum n (markAt x) + markAt x n = omega arith in
-        ap₂ (λ (k : ℕ) (ms : List ℕ). marked (countOf g x) k ms) s (marks-kept (g .edges) x (a .writable .marks-long) n l e)
+        ap₂ (λ (k : ℕ) (ms : List ℕ). marked (countOf g x) k ms) s (marks-kept (g .edges) x (a .marks .long) n l e)
 
     step-at : Reaches (subgraphLayout g) (reading (stateAt g x n)) (linesAt g x n) (reading (stateAt g x (suc n)))
     step-at = go (eqb (markAt x n) 1) refl
@@ -188,7 +191,7 @@ module _ {g : Graph} {x : List ℕ} (a : Accepted g x) where
             (chosen-step (eqb-true (markAt x n) 1 is))
         go false is =
             let ne : markAt x n ≢ 1 = eqb-false (markAt x n) 1 is in
-            let z : markAt x n ≡ 0 = omega (arith, a .writable .marks n l) in
+            let z : markAt x n ≡ 0 = omega (arith, a .marks .each n l) in
             rw (unchosen-step z) (reaches-none (subgraphLayout g) (reading (stateAt g x (suc n))))
 
   lines-read : (n : ℕ) → n ≤ g .edges → Reaches (subgraphLayout g) (reading (stateAt g x 0)) (chosenLines g x n) (reading (stateAt g x n))
@@ -219,12 +222,12 @@ module _ {g : Graph} {x : List ℕ} (a : Accepted g x) where
       ap (subgraphSizes g)
       (three-back (g .rows) (g .columns) (countOf g x) (omega (arith, S .rows-small)) (omega (arith, S .columns-small)) (omega (arith, count-few)))
       ∙ ap (λ (t : Bool). cond t (cond agrees sizesRead (stops Disagreement)) (stops Sizes))
-      (sizes-fewer (g .kind) (g .rows) (g .columns) (g .edges) (countOf g x) (a .writable .sizes) (count-le (a .writable)))
+      (sizes-fewer (g .kind) (g .rows) (g .columns) (g .edges) (countOf g x) (a .passed .sound .sizes .test) (count-le (a .marks)))
       ∙ ap (λ (t : Bool). cond t sizesRead (stops Disagreement))
       (eq-eqb (g .rows) (g .rows) refl
       also eq-eqb (g .columns) (g .columns) refl
-      also le-leb (countOf g x) (g .edges) (count-le (a .writable)))
-      ∙ ap (λ (ms : List ℕ). goes (marked (countOf g x) 0 ms)) (marks-none (g .edges) x (a .writable .marks-long))
+      also le-leb (countOf g x) (g .edges) (count-le (a .marks)))
+      ∙ ap (λ (ms : List ℕ). goes (marked (countOf g x) 0 ms)) (marks-none (g .edges) x (a .marks .long))
 
   size-step : onLine (subgraphLayout g) (sizing tt) sizeLine ≡ goes (reading (stateAt g x 0))
   size-step =
@@ -245,21 +248,25 @@ module _ {g : Graph} {x : List ℕ} (a : Accepted g x) where
   all-read : readLines (subgraphLayout g) 1 start textLines ≡ yields x
   all-read =
       reaches-end (subgraphLayout g) start textLines (stateAt g x (g .edges)) 1
-      (reaches-append (subgraphLayout g) start (sizing tt) (reading (stateAt g x (g .edges))) (headerText (g .kind) ∷ []) (sizeLine ∷ chosenLines g x (g .edges))
+      (reaches-append (subgraphLayout g) start (sizing tt) (reading (stateAt g x (g .edges))) (headerText (g .kind) ∷ [])
+      (sizeLine ∷ chosenLines g x (g .edges))
       (reaches-one (subgraphLayout g) start (sizing tt) (headerText (g .kind)) header-step)
       (reaches-append (subgraphLayout g) (sizing tt) (reading (stateAt g x 0)) (reading (stateAt g x (g .edges))) (sizeLine ∷ []) (chosenLines g x (g .edges))
       (reaches-one (subgraphLayout g) (sizing tt) (reading (stateAt g x 0)) sizeLine size-step)
       (lines-read (g .edges) (omega arith))))
       (le-ltb (countOf g x) (countOf g x) (omega arith))
-      ∙ ap yields (marks-all (g .edges) x (a .writable .marks-long))
+      ∙ ap yields (marks-all (g .edges) x (a .marks .long))
 
   chosen-free : (n : ℕ) → AllFree newline (chosenLines g x n)
   chosen-free zero = rw (chosen-none g x) tt
   chosen-free (suc n) = rw (chosen-more g x n) (all-free-append newline (chosenLines g x n) (linesAt g x n) (chosen-free n) (go (eqb (markAt x n) 1)))
     where
       go : (b : Bool) → AllFree newline (cond b (spaced (decimal (rowAt g n) ∷ decimal (columnAt g n) ∷ []) ∷ []) [])
-      go true =
-          (free-spaced newline (decimal (rowAt g n) ∷ decimal (columnAt g n) ∷ []) refl (decimal-no-newline (rowAt g n), (decimal-no-newline (columnAt g n), tt)), tt)
+      go true = (
+        free-spaced newline (decimal (rowAt g n) ∷ decimal (columnAt g n) ∷ []) refl
+            (decimal-no-newline (rowAt g n), (decimal-no-newline (columnAt g n), tt)),
+        tt,
+      )
       go false = tt
 
   lines-of-text : lines (subgraphText g x) ≡ textLines
@@ -279,12 +286,12 @@ module _ {g : Graph} {x : List ℕ} (a : Accepted g x) where
   unfolding readSubgraph
   text-back =
       pass (once LentLength (graphLengths g && eqb (length x) (g .edges)) ∷ graphTests g) (
-        λ k l. lengths-kept a also eq-eqb (length x) (g .edges) (a .writable .marks-long),
-        tests-kept a,
+        λ k l. passed-lengths (a .passed) also eq-eqb (length x) (g .edges) (a .marks .long),
+        passed-tests (a .passed),
       )
       (passing (once TextLength (textFits (subgraphText g x)) ∷ []) (readText (subgraphLayout g) (subgraphText g x)))
       ∙ pass (once TextLength (textFits (subgraphText g x)) ∷ [])
-      (λ k l. le-leb (length (subgraphText g x)) 32768 (omega (arith, text-le (a .writable))), tt)
+      (λ k l. le-leb (length (subgraphText g x)) 32768 (omega (arith, text-le g x (a .passed .sound) (a .marks))), tt)
       (readText (subgraphLayout g) (subgraphText g x))
       ∙ ap (readLines (subgraphLayout g) 1 start) lines-of-text ∙ all-read
 
@@ -297,7 +304,7 @@ read-back g x n text h = ap (readSubgraph g (length x)) (sym (text-is g x n text
 -- Two different subgraphs of a graph are never written alike.
 pub written-apart : (g : Graph) (x y : List ℕ) (n k : ℕ) (text : List ℕ) → writeSubgraph g x n ≡ yields text → writeSubgraph g y k ≡ yields text → x ≡ y
 written-apart g x y n k text h j =
-    let e : length x ≡ length y = omega (arith, accepted g x n text h .writable .marks-long, accepted g y k text j .writable .marks-long) in
+    let e : length x ≡ length y = omega (arith, accepted g x n text h .marks .long, accepted g y k text j .marks .long) in
     let q : _≡_ {A = Outcome (List ℕ)} (yields x) (yields y) =
     sym (read-back g x n text h) ∙ ap (λ (m : ℕ). readSubgraph g m text) e ∙ read-back g y k text j in
     cc

@@ -23,8 +23,8 @@ use Rattle.writer.proofs.Over.{puts-none, puts-long, puts-byte, puts-then, puts
 use Rattle.writer.proofs.Put.{twenty-digits}
 use Rattle.report.specs.declared.Source.{Source}
 use Rattle.report.specs.declared.Source.the-variants as Source
-use Rattle.report.specs.Report.{nameOf, refusedLine, signed, Holds}
-use Rattle.report.proofs.Signs.{held, signed-below, signed-above}
+use Rattle.report.specs.Report.{nameOf, refusedLine, signed, Composed}
+use Rattle.report.proofs.Signs.{fromBits, signed-below, signed-above}
 
 -- Two parts, the second written where the first ends.
 pub puts-next : {d : List ℕ} {at : ℕ} {xs l : List ℕ} {a : ℕ} {ys m : List ℕ} {e : ℕ} → Puts d at xs l a → Puts l a ys m e → e ≤ length d
@@ -38,19 +38,20 @@ pub natural-put : (d : List ℕ) (at n : ℕ) {l : List ℕ} {k : ℕ} → n < 2
     → Puts d at (decimal n) (putMid at (length d - at) d l) (at + k) × (at + k ≤ at + 20)
 natural-put d at n small p = (puts-part d at p, omega (arith, p .place, twenty-digits n small))
 
-module _ (d : List ℕ) (at : ℕ) (z : ℤ) (n : ℕ) {l : List ℕ} {e : ℕ} (f : SFits w64 z) (room : at + 21 ≤ length d) (is : n ≡ up (held z) + dn (held z)) where
-  pub negative-put : ltZ (held z) (pos 0) ≡ true → Puts (set d at 45) (at + 1) (decimal n) l e × (e ≤ at + 1 + 20)
+module _ (d : List ℕ) (at : ℕ) (z : ℤ) (n : ℕ) {l : List ℕ} {e : ℕ} (f : SFits w64 z) (room : at + 21 ≤ length d)
+    (is : n ≡ up (fromBits z) + dn (fromBits z)) where
+  pub negative-put : ltZ (fromBits z) (pos 0) ≡ true → Puts (set d at 45) (at + 1) (decimal n) l e × (e ≤ at + 1 + 20)
       → Puts d at (signed z) l e × (e ≤ at + 21)
   negative-put h (p, k) =
       let sign : Puts d at (45 ∷ []) (set d at 45) (at + 1) = puts-byte (puts-none d at) 45 (omega arith) in
-      (rw (← toZ-ofZ w64 z f) (puts-same (puts-next sign p (omega arith)) (signed-below (held z) n h is)), omega arith)
+      (rw (← toZ-ofZ w64 z f) (puts-same (puts-next sign p (omega arith)) (signed-below (fromBits z) n h is)), omega arith)
 
-  pub positive-put : ltZ (held z) (pos 0) ≡ false → Puts d at (decimal n) l e × (e ≤ at + 20) → Puts d at (signed z) l e × (e ≤ at + 21)
-  positive-put h (p, k) = (rw (← toZ-ofZ w64 z f) (puts-same p (signed-above (held z) n h is)), omega arith)
+  pub positive-put : ltZ (fromBits z) (pos 0) ≡ false → Puts d at (decimal n) l e × (e ≤ at + 20) → Puts d at (signed z) l e × (e ≤ at + 21)
+  positive-put h (p, k) = (rw (← toZ-ofZ w64 z f) (puts-same p (signed-above (fromBits z) n h is)), omega arith)
 
 -- A name and a number.
 pub named-put : (name : List ℕ) (z : ℤ) {d l m : List ℕ} {at a e : ℕ} → SFits w64 z → at + length name + 21 ≤ length d → Puts d at name l a
-    → Puts l a (signed (held z)) m e × (e ≤ a + 21) → Puts d at (name ++ signed z) m e × (e ≤ at + length name + 21)
+    → Puts l a (signed (fromBits z)) m e × (e ≤ a + 21) → Puts d at (name ++ signed z) m e × (e ≤ at + length name + 21)
 named-put name z f room p (q, k) =
     (puts-next p (rw (toZ-ofZ w64 z f) at q) (omega (arith, p .place)), omega (arith, p .place))
 
@@ -99,12 +100,12 @@ module _ (u v : List ℕ) {d m : List ℕ} {e n : ℕ} where
 
 -- The word is a number.
 module _ (u : List ℕ) (z : ℤ) {d m : List ℕ} {e : ℕ} (f : mag z < 2 ^ hbits w64) where
-  pub first-number : Puts d 0 (u ++ (32 ∷ []) ++ signed (held z)) m e × (e ≤ 0 + length (u ++ (32 ∷ [])) + 21) → length u + 22 ≤ length d
+  pub first-number : Puts d 0 (u ++ (32 ∷ []) ++ signed (fromBits z)) m e × (e ≤ 0 + length (u ++ (32 ∷ [])) + 21) → length u + 22 ≤ length d
       → Words d (u ∷ signed z ∷ []) m e (length u + 22)
   first-number (p, k) room = first-pair u (signed z) (rw (back w64 z f) at p) (omega (arith, length-append u (32 ∷ []))) room
 
   pub next-number : {w : List ℕ} {ws : List (List ℕ)} {l : List ℕ} {a n : ℕ} → Words d (w ∷ ws) l a n
-      → Puts l a ((32 ∷ u) ++ (32 ∷ []) ++ signed (held z)) m e × (e ≤ a + length ((32 ∷ u) ++ (32 ∷ [])) + 21) → n + (length u + 23) ≤ length d
+      → Puts l a ((32 ∷ u) ++ (32 ∷ []) ++ signed (fromBits z)) m e × (e ≤ a + length ((32 ∷ u) ++ (32 ∷ [])) + 21) → n + (length u + 23) ≤ length d
       → Words d ((w ∷ ws) ++ (u ∷ signed z ∷ [])) m e (n + (length u + 23))
   next-number p (q, k) room =
       next-pair u (signed z) p (rw (back w64 z f) at q) (omega (arith, length-append u (32 ∷ []), p .within)) room
@@ -116,8 +117,8 @@ unfolding over
 over-start d xs = ap (λ (n : ℕ). xs ++ drop n d) (zero-add (length xs))
 
 -- A text that was written at the start stands there.
-puts-holds : {d xs l : List ℕ} {e : ℕ} → Puts d 0 xs l e → e ≤ length d → Holds xs l e
-puts-holds {d} {xs} {l} {e} p h =
+puts-composed : {d xs l : List ℕ} {e : ℕ} → Puts d 0 xs l e → e ≤ length d → Composed xs l e
+puts-composed {d} {xs} {l} {e} p h =
     let n : length xs ≡ e = omega (arith, p .place) in
     record {
       bytes = ap (take e) (p .text ∙ over-start d xs) ∙ take-at xs (drop (length xs) d) e n;
@@ -128,21 +129,25 @@ line-is : (l : List ℕ) → l ++ (10 ∷ []) ≡ unlines (l ∷ [])
 unfolding unlines
 line-is l = refl
 
-pub line-holds : {ws : List (List ℕ)} {d l : List ℕ} {e n : ℕ} → Words d ws l e n → n < length d → Holds (unlines (spaced ws ∷ [])) (set l e 10) (e + 1)
-line-holds {ws} p h =
-    puts-holds (puts-same (puts-byte (p .puts) 10 (omega (arith, p .puts .place))) (line-is (spaced ws))) (omega arith)
+pub line-composed : {ws : List (List ℕ)} {d l : List ℕ} {e n : ℕ} → Words d ws l e n → n < length d → Composed (unlines (spaced ws ∷ [])) (set l e 10) (e + 1)
+line-composed {ws} p h =
+    puts-composed (puts-same (puts-byte (p .puts) 10 (omega (arith, p .puts .place))) (line-is (spaced ws))) (omega arith)
 
 -- ---- the line of a refusal
 
-pub refused-holds : (source : Source) (fault : Fault) (place n : ℕ) {d l₁ l₂ l₃ l₄ l₅ l₆ : List ℕ} {a₁ a₂ a₃ a₄ a₅ a₆ : ℕ} → 128 ≤ length d → n ≡ numberOf fault
+pub refused-composed : (source : Source) (fault : Fault) (place n : ℕ) {d l₁ l₂ l₃ l₄ l₅ l₆ : List ℕ} {a₁ a₂ a₃ a₄ a₅ a₆ : ℕ} → 256 ≤ length d →
+    n ≡ numberOf fault
     → Puts d 0 (bytes "refused ") l₁ a₁ → Puts l₁ a₁ (decimal n) l₂ a₂ × (a₂ ≤ a₁ + 20)
     → Puts l₂ a₂ (bytes " at ") l₃ a₃ → Puts l₃ a₃ (decimal place) l₄ a₄ × (a₄ ≤ a₃ + 20)
     → Puts l₄ a₄ (bytes " in ") l₅ a₅ → Puts l₅ a₅ (nameOf source) l₆ a₆ × (a₆ ≤ a₅ + 10)
-    → Holds (refusedLine source fault place) (set l₆ a₆ 10) (a₆ + 1)
+    → Composed (refusedLine source fault place) (set l₆ a₆ 10) (a₆ + 1)
 unfolding refusedLine
-refused-holds source fault place n {d} {l₂ = l₂} {l₄ = l₄} {l₆ = l₆} {a₂ = a₂} {a₄ = a₄} {a₆ = a₆} room is p₁ (p₂, k₂) p₃ (p₄, k₄) p₅ (p₆, k₆) =
-    let number : Words d (bytes "refused" ∷ decimal n ∷ []) l₂ a₂ 28 = first-pair (bytes "refused") (decimal n) (puts-next p₁ p₂ (omega (arith, p₁ .place))) (omega (arith, p₁ .place)) (omega arith) in
+refused-composed source fault place n {d} {l₂ = l₂} {l₄ = l₄} {l₆ = l₆} {a₂ = a₂} {a₄ = a₄} {a₆ = a₆} room is p₁ (p₂, k₂) p₃ (p₄, k₄) p₅ (p₆, k₆) =
+    let number : Words d (bytes "refused" ∷ decimal n ∷ []) l₂ a₂ 28 = first-pair (bytes "refused") (decimal n)
+    (puts-next p₁ p₂ (omega (arith, p₁ .place))) (omega (arith, p₁ .place)) (omega arith) in
     let at : Words d (bytes "refused" ∷ decimal n ∷ bytes "at" ∷ decimal place ∷ []) l₄ a₄ 52 =
     next-pair (bytes "at") (decimal place) number (puts-next p₃ p₄ (omega (arith, number, p₃ .place))) (omega (arith, number, p₃ .place)) (omega arith) in
     rw (← is)
-    (line-holds (next-pair (bytes "in") (nameOf source) {n = 66} at (puts-next p₅ p₆ (omega (arith, at, p₅ .place))) (omega (arith, at, p₅ .place)) (omega arith)) (omega arith))
+    (line-composed
+    (next-pair (bytes "in") (nameOf source) {n = 66} at (puts-next p₅ p₆ (omega (arith, at, p₅ .place))) (omega (arith, at, p₅ .place))
+    (omega arith)) (omega arith))

@@ -16,12 +16,12 @@ use Rattle.integers.proofs.Order.{tests, up-add, up-neg, up-eq, fits-within}
 use Rattle.report.specs.Report.{signed}
 
 -- The number as it is read back from its bits.
-abbrev pub held : ℤ → ℤ
-held z = toZ w64 (ofZ w64 z)
+abbrev pub fromBits : ℤ → ℤ
+fromBits z = toZ w64 (ofZ w64 z)
 
 -- What `-(z + 1)` holds.
 abbrev pub rest : ℤ → ℤ
-rest z = held (pos 0 -ℤ held (held z +ℤ pos 1))
+rest z = fromBits (pos 0 -ℤ fromBits (fromBits z +ℤ pos 1))
 
 -- ---- the magnitude of a number below 0
 
@@ -36,28 +36,28 @@ below-one : (z : ℤ) → ltZ z (pos 0) ≡ true → mag z + 1 ≡ up z + dn z
 below-one (pos n) h = absurd (omega tests)
 below-one (negsuc n) h = omega arith
 
-module _ (z : ℤ) (f : SFits w64 z) (h : ltZ (held z) (pos 0) ≡ true) where
-  sum-is : held z +ℤ pos 1 ≡ negℤ (pos (mag z))
+module _ (z : ℤ) (f : SFits w64 z) (h : ltZ (fromBits z) (pos 0) ≡ true) where
+  sum-is : fromBits z +ℤ pos 1 ≡ negℤ (pos (mag z))
   sum-is = rw (toZ-ofZ w64 z f) (raised-is z (rw (toZ-ofZ w64 z f) at h))
 
   left-fits : SFits w64 (negℤ (pos (mag z)))
   left-fits = fits-within w64 (negℤ (pos (mag z))) {n = mag z} (omega (arith, up-neg (pos (mag z)))) (f .sfits)
 
-  pub sum-fits : SFits w64 (held z +ℤ pos 1)
+  pub sum-fits : SFits w64 (fromBits z +ℤ pos 1)
   sum-fits = rw sum-is left-fits
 
-  turned-rest : pos 0 -ℤ held (held z +ℤ pos 1) ≡ pos (mag z)
+  turned-rest : pos 0 -ℤ fromBits (fromBits z +ℤ pos 1) ≡ pos (mag z)
   turned-rest =
-      ap (λ (y : ℤ). pos 0 -ℤ y) (ap held sum-is ∙ toZ-ofZ w64 (negℤ (pos (mag z))) left-fits) ∙ turned-is (mag z)
+      ap (λ (y : ℤ). pos 0 -ℤ y) (ap fromBits sum-is ∙ toZ-ofZ w64 (negℤ (pos (mag z))) left-fits) ∙ turned-is (mag z)
 
   mag-fits : SFits w64 (pos (mag z))
   mag-fits = record { sfits = f .sfits }
 
-  pub negated-fits : SFits w64 (pos 0 -ℤ held (held z +ℤ pos 1))
+  pub negated-fits : SFits w64 (pos 0 -ℤ fromBits (fromBits z +ℤ pos 1))
   negated-fits = rw turned-rest mag-fits
 
   rest-is : rest z ≡ pos (mag z)
-  rest-is = ap held turned-rest ∙ toZ-ofZ w64 (pos (mag z)) mag-fits
+  rest-is = ap fromBits turned-rest ∙ toZ-ofZ w64 (pos (mag z)) mag-fits
 
   pub magnitude-below : natAbs (rest z) + 1 ≡ up z + dn z
   magnitude-below = ap (λ (y : ℤ). natAbs y + 1) rest-is ∙ below-one z (rw (toZ-ofZ w64 z f) at h)
@@ -74,11 +74,11 @@ not-below : (z : ℤ) → ltZ z (pos 0) ≡ false → T (nonNeg z) × (natAbs z 
 not-below (pos n) h = (tt, omega arith)
 not-below (negsuc n) h = absurd (omega tests)
 
-module _ (z : ℤ) (f : SFits w64 z) (h : ltZ (held z) (pos 0) ≡ false) where
-  pub magnitude-above : natAbs (held z) ≡ up z + dn z
+module _ (z : ℤ) (f : SFits w64 z) (h : ltZ (fromBits z) (pos 0) ≡ false) where
+  pub magnitude-above : natAbs (fromBits z) ≡ up z + dn z
   magnitude-above = rw (toZ-ofZ w64 z f) (not-below z (rw (toZ-ofZ w64 z f) at h) .1)
 
-  pub above-casts : T (nonNeg (held z)) × Fits w64 (natAbs (held z))
+  pub above-casts : T (nonNeg (fromBits z)) × Fits w64 (natAbs (fromBits z))
   above-casts = rw (toZ-ofZ w64 z f) (not-below z (rw (toZ-ofZ w64 z f) at h) .0, record { fits = omega (arith, f .sfits, natAbs-le z (f .sfits)) })
 
 -- ---- how a number is written

@@ -5,6 +5,7 @@ use mathlib.Core.List.{List}
 use lib.IntN.{ℤ}
 use lib.ListN.{take, drop}
 use Rattle.graph.specs.declared.Fault.{Fault}
+use Rattle.graph.specs.Limits.{mostEdges, workspaceNumbers}
 use Rattle.graph.specs.Refusal.{Outcome, yields, refuses}
 use Rattle.graph.specs.Graph.{Graph, vertices}
 use Rattle.graph.specs.Subgraph.{Optimal}
@@ -17,7 +18,7 @@ use Rattle.dual.specs.Measure.{measure}
 use Rattle.dual.specs.Solve.{Lent, solve, withoutSets}
 use Rattle.report.specs.declared.Source.{Source}
 use Rattle.report.specs.declared.Source.the-variants as Source
-use Rattle.report.specs.Report.{refusedLine, measuredLine, Holds}
+use Rattle.report.specs.Report.{refusedLine, measuredLine, Composed}
 
 -- How far a program comes: it has a value, or the first refusal has ended it.
 pub data Run (A : Type 0) : Type 0 where
@@ -25,9 +26,9 @@ pub data Run (A : Type 0) : Type 0 where
   ends : Source → Fault → ℕ → Run A
 
 -- What comes from a text, or from no reader.
-abbrev pub from : {A : Type 0} → Source → Outcome A → Run A
-from source (yields a) = has a
-from source (refuses fault place) = ends source fault place
+abbrev pub cameFrom : {A : Type 0} → Source → Outcome A → Run A
+cameFrom source (yields a) = has a
+cameFrom source (refuses fault place) = ends source fault place
 
 abbrev pub andThen : {A B : Type 0} → Run A → (A → Run B) → Run B
 andThen (has a) next = next a
@@ -45,22 +46,22 @@ pub record Problem : Type 0 where
 
 abbrev pub readBounds : Graph → List ℕ → Run Problem
 readBounds g limits =
-    andThen (from Source.Limits (readNumbers Bounds (vertices g) (vertices g) limits)) (λ bound. has (record { graph = g; bound = bound }))
+    andThen (cameFrom Source.Limits (readNumbers Bounds (vertices g) (vertices g) limits)) (λ bound. has (record { graph = g; bound = bound }))
 
 unfoldable pub readProblem : List ℕ → List ℕ → Run Problem
-readProblem sheet limits = andThen (from Source.Sheet (readGraph 1024 1024 1024 sheet)) (λ g. readBounds g limits)
+readProblem sheet limits = andThen (cameFrom Source.Sheet (readGraph mostEdges mostEdges mostEdges sheet)) (λ g. readBounds g limits)
 
 -- `mark` also reads plan.mtx and prices.mtx, first the prices of the vertices and then those of the edges, and takes no odd sets.
 abbrev pub markPrices : Graph → List ℤ → List ℕ → List ℤ → Run Measures
 markPrices g bound x prices =
-    from Source.Input (measure g bound x (withoutSets (take (vertices g) prices) (drop (vertices g) prices)))
+    cameFrom Source.Input (measure g bound x (withoutSets (take (vertices g) prices) (drop (vertices g) prices)))
 
 abbrev pub markPlan : Graph → List ℤ → List ℕ → List ℕ → Run Measures
 markPlan g bound x prices =
-    andThen (from Source.Prices (readNumbers Prices (vertices g + g .edges) (vertices g + g .edges) prices)) (markPrices g bound x)
+    andThen (cameFrom Source.Prices (readNumbers Prices (vertices g + g .edges) (vertices g + g .edges) prices)) (markPrices g bound x)
 
 abbrev pub markProblem : Graph → List ℤ → List ℕ → List ℕ → Run Measures
-markProblem g bound plan prices = andThen (from Source.Plan (readSubgraph g (g .edges) plan)) (λ x. markPlan g bound x prices)
+markProblem g bound plan prices = andThen (cameFrom Source.Plan (readSubgraph g (g .edges) plan)) (λ x. markPlan g bound x prices)
 
 -- What `mark` writes.
 unfoldable pub markOutput : List ℕ → List ℕ → List ℕ → List ℕ → List ℕ
@@ -69,10 +70,10 @@ markOutput sheet limits plan prices =
 
 -- `solve` lends the solver just the lengths that the graph gives.
 abbrev pub lentFor : Graph → Lent
-lentFor g = record { chosen = g .edges; vertexPrices = vertices g; edgePrices = g .edges; workspace = 4096 }
+lentFor g = record { chosen = g .edges; vertexPrices = vertices g; edgePrices = g .edges; workspace = workspaceNumbers }
 
 abbrev pub solveProblem : Graph → List ℤ → Run (Unit {0})
-solveProblem g bound = from Source.Input (solve g bound (lentFor g))
+solveProblem g bound = cameFrom Source.Input (solve g bound (lentFor g))
 
 -- What `solve` writes where x is the subgraph that it picks.
 unfoldable pub solveOutput : List ℕ → List ℕ → List ℕ → List ℕ
@@ -85,7 +86,7 @@ pub record Picked (sheet limits x : List ℕ) : Type 0 where
   pub optimal : (P : Problem) → readProblem sheet limits ≡ has P → solveProblem (P .graph) (P .bound) ≡ has tt → Optimal (P .graph) (P .bound) x
 
 -- What `solve` leaves in a buffer of which it writes the first r bytes.
-pub record SolveHolds (sheet limits buffer : List ℕ) (r : ℕ) : Type 0 where
+pub record SolveComposed (sheet limits buffer : List ℕ) (r : ℕ) : Type 0 where
   pub chosen : List ℕ
   pub picked : Picked sheet limits chosen
-  pub holds : Holds (solveOutput sheet limits chosen) buffer r
+  pub composed : Composed (solveOutput sheet limits chosen) buffer r

@@ -44,7 +44,11 @@ measuredLine m =
     ∷ [])
     ∷ [])
 
+-- The lines of a refusal and of a measuring are shorter than 256 bytes.
+abbrev pub lineBytes : ℕ
+lineBytes = 256
+
 -- A text stands at the start of a buffer, and r is its length: what a program writes.
-pub record Holds (text buffer : List ℕ) (r : ℕ) : Type 0 where
+pub record Composed (text buffer : List ℕ) (r : ℕ) : Type 0 where
   pub bytes : take r buffer ≡ text
   pub inside : r ≤ length buffer

@@ -10,7 +10,10 @@ ghost use lib.ListN.{length};
 ghost use Rattle.integers.specs.Integer.{up, dn};
 ghost use Rattle.layout.specs.Text.{decimal};
 ghost use Rattle.writer.specs.Written.{Puts};
-ghost use Rattle.report.specs.Report.{nameOf, refusedLine, signed, measuredLine, Holds};
+ghost use Rattle.report.specs.Report.{nameOf, refusedLine, signed, measuredLine, Composed, lineBytes};
+
+// Room for either line, as specs/Report.antt defines it.
+pub const LINE_BYTES: usize = 256;
 
 // Where a refusal comes from: a text that is read, or no reader.
 pub enum Source {
@@ -79,8 +82,8 @@ fn put_source(out: &mut [u8], at: usize, source: Source) -> usize
 
 // Writes the line of a refusal at the start of `out`. The result is its length.
 pub fn put_refused(out: &mut [u8], source: Source, refusal: Refusal) -> usize
-    requires { ⌜ 128 ≤ length (now out) ⌝ }
-    ensures { λ r. ⌜ Holds (refusedLine source (refusal .fault) (refusal .place)) (now (out .exit)) r ⌝ }
+    requires { ⌜ lineBytes ≤ length (now out) ⌝ }
+    ensures { λ r. ⌜ Composed (refusedLine source (refusal .fault) (refusal .place)) (now (out .exit)) r ⌝ }
 {
     let fault = refusal.fault;
     let place = refusal.place;
@@ -97,8 +100,8 @@ pub fn put_refused(out: &mut [u8], source: Source, refusal: Refusal) -> usize
 
 // Writes the line of a measuring at the start of `out`. The result is its length.
 pub fn put_measures(out: &mut [u8], m: Measures) -> usize
-    requires { ⌜ 256 ≤ length (now out) ⌝ }
-    ensures { λ r. ⌜ Holds (measuredLine m) (now (out .exit)) r ⌝ }
+    requires { ⌜ lineBytes ≤ length (now out) ⌝ }
+    ensures { λ r. ⌜ Composed (measuredLine m) (now (out .exit)) r ⌝ }
 {
     let mut at = put_named(out, 0, b"merit ", m.weight);
     at = put_named(out, at, b" total ", m.total);

@@ -1,25 +1,31 @@
 // The scan of a labelled vertex: each edge from it is looked at.
+use graph::MOST_VERTICES;
+use graph::Shape;
 ghost use Prim.Native.Nat.{_-_, _≤_, _<_};
 ghost use mathlib.Core.Path.{_≡_};
 ghost use lib.ListN.{length};
-ghost use Rattle.tree.specs.Tree.{entries, Readable, tailOf, headOf, slackOf, Free};
-ghost use Rattle.scan.specs.Scan.{Decides, Visible, Visited};
+ghost use Rattle.graph.specs.Limits.{mostVertices};
+ghost use Rattle.graph.specs.Graph.{graphOf, verticesIn};
+ghost use Rattle.graph.specs.Passed.{Passed};
+ghost use Rattle.tree.specs.Method.{Solvable};
+ghost use Rattle.tree.specs.Tree.{entries, levels, Levelled, NotedInside, slack, FreeColumn};
+ghost use Rattle.scan.specs.Scan.{Decides, Visited};
 
 // Whether vertex v is a column vertex that is not saturated.
-pub fn is_free(rows: u32, bound: &[i32], degree: &[u32; 128], v: usize) -> bool
-    requires { ⌜ (v < 128) × (v < length (now bound)) ⌝ }
-    ensures { λ r. ⌜ Decides r (Free rows (now (bound .entry)) (entries (now (degree .entry))) v) ⌝ }
+pub fn is_free(rows: u32, bound: &[i32], degree: &[u32; MOST_VERTICES], v: usize) -> bool
+    requires { ⌜ (v < mostVertices) × (v < length (now bound)) ⌝ }
+    ensures { λ r. ⌜ Decides r (FreeColumn rows (now (bound .entry)) (entries (now (degree .entry))) v) ⌝ }
 {
     if v < rows as usize {
         return false;
     }
-    degree[v] < tree::natural_at(bound, v)
+    degree[v] < integers::natural_at(bound, v)
 }
 
 // Whether the path ends at vertex v, reached by an edge of this slack.
-fn ends_path(slack: u32, rows: u32, bound: &[i32], degree: &[u32; 128], v: usize) -> bool
-    requires { ⌜ (v < 128) × (v < length (now bound)) ⌝ }
-    ensures { λ r. ⌜ Decides r ((slack ≡ 0) × Free rows (now (bound .entry)) (entries (now (degree .entry))) v) ⌝ }
+fn ends_path(slack: u32, rows: u32, bound: &[i32], degree: &[u32; MOST_VERTICES], v: usize) -> bool
+    requires { ⌜ (v < mostVertices) × (v < length (now bound)) ⌝ }
+    ensures { λ r. ⌜ Decides r ((slack ≡ 0) × FreeColumn rows (now (bound .entry)) (entries (now (degree .entry))) v) ⌝ }
 {
     if slack > 0 {
         return false;
@@ -29,7 +35,7 @@ fn ends_path(slack: u32, rows: u32, bound: &[i32], degree: &[u32; 128], v: usize
 
 // Whether an edge is noted, by its number from 1, and is at most this slack.
 fn is_nearer(
-    rows: u32,
+    s: Shape,
     row: &[u32],
     column: &[u32],
     weight: &[i32],
@@ -37,47 +43,52 @@ fn is_nearer(
     noted: u32,
     most: u32,
 ) -> bool
-    requires { ⌜ (0 < noted → Readable rows (now row) (now column) (now weight) (now price) (noted - 1)) ⌝ }
-    ensures { λ r. ⌜ Decides r ((0 < noted) × (slackOf rows (now (row .entry)) (now (column .entry)) (now (weight .entry)) (now (price .entry)) (noted - 1) ≤ most)) ⌝ }
+    requires { ⌜ Passed (graphOf s (now row) (now column) (now weight)) ⌝ }
+    requires { ⌜ Levelled (verticesIn s) (now price) × (0 < noted → noted - 1 < s .edges) ⌝ }
+    ensures { λ r. ⌜ Decides r ((0 < noted) × (slack (graphOf s (now (row .entry)) (now (column .entry)) (now (weight .entry))) (levels (now (price .entry))) (noted - 1) ≤ most)) ⌝ }
 {
     if noted == 0 {
         return false;
     }
     let e = (noted - 1) as usize;
-    tree::slack_of(rows, row, column, weight, price, e) <= most
+    tree::slack_at(s, row, column, weight, price, e) <= most
 }
 
 // Looks at edge e from vertex u, and notes it where it leads to a vertex with no label and is nearer than the edge noted there. The result is
 // whether the path ends there.
 pub fn visit(
-    rows: u32,
+    s: Shape,
     row: &[u32],
     column: &[u32],
     weight: &[i32],
     bound: &[i32],
     chosen: &[u8],
     price: &[i32],
-    degree: &[u32; 128],
-    rank: &[u32; 128],
-    near: &mut [u32; 128],
+    degree: &[u32; MOST_VERTICES],
+    rank: &[u32; MOST_VERTICES],
+    near: &mut [u32; MOST_VERTICES],
     u: usize,
     e: usize,
 ) -> bool
-    requires { ⌜ Visible rows (now row) (now column) (now weight) (now bound) (now price) (now chosen) (entries (now rank)) (entries (now near)) e ⌝ }
-    ensures { λ r. ⌜ Visited (tailOf rows (now (row .entry)) (now (column .entry)) (now (chosen .entry))) (headOf rows (now (row .entry)) (now (column .entry)) (now (chosen .entry))) (slackOf rows (now (row .entry)) (now (column .entry)) (now (weight .entry)) (now (price .entry))) (entries (now (rank .entry))) (entries (now (degree .entry))) rows (now (bound .entry)) u e (now (near .entry)) (now (near .exit)) r ⌝ }
+    requires { ⌜ Solvable (graphOf s (now row) (now column) (now weight)) ⌝ }
+    requires { ⌜ Levelled (verticesIn s) (now price) ⌝ }
+    requires { ⌜ (e < s .edges) × (length (now chosen) ≡ s .edges) × (length (now bound) ≡ verticesIn s) ⌝ }
+    requires { ⌜ NotedInside (s .edges) (entries (now rank)) (entries (now near)) ⌝ }
+    ensures { λ r. ⌜ Visited (graphOf s (now (row .entry)) (now (column .entry)) (now (weight .entry))) (now (bound .entry)) (now (chosen .entry)) (levels (now (price .entry))) (entries (now (rank .entry))) (entries (now (degree .entry))) u e (now (near .entry)) (now (near .exit)) r ⌝ }
 {
-    if tree::tail_of(rows, row, column, chosen, e) != u {
+    let arc = tree::arc_at(s, row, column, chosen, e);
+    if arc.tail != u {
         return false;
     }
-    let w = tree::head_of(rows, row, column, chosen, e);
+    let w = arc.head;
     if rank[w] > 0 {
         return false;
     }
-    let slack = tree::slack_of(rows, row, column, weight, price, e);
-    if ends_path(slack, rows, bound, degree, w) {
+    let slack = tree::slack_at(s, row, column, weight, price, e);
+    if ends_path(slack, s.rows, bound, degree, w) {
         return true;
     }
-    if is_nearer(rows, row, column, weight, price, near[w], slack) {
+    if is_nearer(s, row, column, weight, price, near[w], slack) {
         return false;
     }
     near[w] = e as u32 + 1;

@@ -5,13 +5,16 @@ use mathlib.Core.Bool.{Bool, true}
 use mathlib.Core.List.{List}
 use lib.IntN.{ℤ}
 use lib.ListN.{set}
-use Rattle.tree.specs.Tree.{entries, levels, Free, Nearest, Moved}
+use Rattle.graph.specs.Graph.{Graph, vertices}
+use Rattle.tree.specs.declared.Tree.{Tree}
+use Rattle.tree.specs.Tree.{entries, levels, slack, FreeColumn, Nearest, Moved}
 use Rattle.scan.specs.Scan.{Decides}
 
--- The dual step was made, and vertex v limits it: it is the path's end, or has a new label.
-pub record Advanced (rows n : ℕ) (gap : ℕ → ℕ) (bound : List ℤ) (used near : ℕ → ℕ) (price price′ : List ℤ) (label rank label′ rank′ : List ℕ) (count count′ v : ℕ) (ended : Bool) : Type 0 where
+-- The dual step was made, and vertex v limits it: it is the path's end, or has a new label in the tree.
+pub record Advanced (g : Graph) (bound : List ℤ) (used near : ℕ → ℕ) (price price′ : List ℤ) (t t′ : Tree) (v : ℕ) (ended : Bool) : Type 0 where
   pub by : ℕ
-  pub nearest : Nearest rows n gap (levels price) (entries rank) near n by v
-  pub moved : Moved rows n by (entries rank) (levels price) (levels price′)
-  pub old : 0 < entries rank v → (label′ ≡ label) × (rank′ ≡ rank) × (ended ≡ true)
-  pub new : entries rank v ≡ 0 → (label′ ≡ set label v (near v - 1)) × (rank′ ≡ set rank v (count + 1)) × (count′ ≡ count + 1) × Decides ended (Free rows bound used v)
+  pub nearest : Nearest (g .rows) (vertices g) (slack g (levels price)) (levels price) (entries (t .rank)) near (vertices g) by v
+  pub moved : Moved (g .rows) (vertices g) by (entries (t .rank)) (levels price) (levels price′)
+  pub old : 0 < entries (t .rank) v → (t′ .label ≡ t .label) × (t′ .rank ≡ t .rank) × (ended ≡ true)
+  pub new : entries (t .rank) v ≡ 0
+      → (t′ .label ≡ set (t .label) v (near v - 1)) × (t′ .rank ≡ set (t .rank) v (t .count + 1)) × (t′ .count ≡ t .count + 1) × Decides ended (FreeColumn (g .rows) bound used v)

@@ -1,3 +1,2 @@
 pub mod Marks
-pub mod Loops
-pub mod Fit
+pub mod Edges

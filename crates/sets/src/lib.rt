@@ -1,119 +1,110 @@
-// The rules of odd sets (groups), their capacity, and which edges they cover.
-// The words `insides`, 2 a set, mark vertices, and `markings`, 16 a set, mark edges.
-// A contract leaves out of the graph and the price sheet, as 0 or [], what its definition does not look at.
+// The rules of odd sets (groups), their load and capacity, and which edges they cover.
+// The words `insides`, 2 a set, mark vertices, and `markings`, 16 a set, mark edges. Odd sets count by k.
+// A contract leaves out of the graph and the price sheet, as [] or 0, what its definition does not look at.
+use checks::Ends;
 use checks::Lowest;
-use graph::Kind;
-ghost use Prim.Native.Nat.{ℕ, _+_, _*_, _^_, _≤_, _<_, min};
+use graph::EDGE_WORDS;
+use graph::MOST_SETS;
+use graph::Shape;
+use graph::VERTEX_WORDS;
+ghost use Prim.Native.Nat.{ℕ, _+_, _*_, _≤_, _<_, min};
 ghost use mathlib.Core.Path.{_≡_};
 ghost use mathlib.Core.Bool.{not, _&&_, _||_};
 ghost use mathlib.Core.List.{[]};
 ghost use lib.Dec.{eqb, ltb};
-ghost use lib.IntN.{pos, _*ℤ_};
+ghost use lib.IntN.{pos};
 ghost use lib.ListN.{length, getD};
 ghost use lib.Signed.{_≤ℤ_};
-ghost use Rattle.integers.specs.Integer.{up, Within};
-ghost use Rattle.integers.specs.Sum.{sum, sumℤ};
-ghost use Rattle.graph.specs.Graph.{verticesOf};
+ghost use Rattle.integers.specs.Integer.{up};
+ghost use Rattle.integers.specs.Sum.{sum};
+ghost use Rattle.graph.specs.Limits.{mostVertices, mostEdges, greatestBound, mostSets, vertexWords, edgeWords};
+ghost use Rattle.graph.specs.Graph.{graphOf, verticesIn, boundAt};
 ghost use Rattle.graph.specs.Refusal.{lowest};
-ghost use Rattle.graph.specs.Subgraph.{markAt};
-ghost use Rattle.dual.specs.Prices.{inside, marked, one, setPrice};
-ghost use Rattle.dual.specs.Sets.{nothingAbove, hasVertex, endsInside, oneEndInside, load, capacity, keepsRules, covers};
+ghost use Rattle.graph.specs.Passed.{Sound, Bounded, MarksHold};
+ghost use Rattle.dual.specs.Prices.{one, pricesOf};
+ghost use Rattle.dual.specs.Sets.{nothingAbove, hasVertex, oneEndInside, load};
 ghost use Rattle.dual.specs.Gap.{chosenCovered};
-ghost use Rattle.checks.specs.Checks.{lowestSays, graphOf};
-ghost use Rattle.sets.specs.Lent.{pricesOf, marksOf, EndsFit, EdgesFit, BoundsFit, WordsFit};
+ghost use Rattle.checks.specs.Checks.{lowestSays};
+ghost use Rattle.sets.specs.Words.{isInside, isMarked, insideBy, coversBy, keepsRulesBy};
 
-// Whether odd set s marks vertex v.
-fn is_inside(insides: &[u64], s: usize, v: usize) -> bool
-    requires { ⌜ (2 * s + 2 ≤ length (now insides)) × (v < 128) ⌝ }
-    ensures { λ r. ⌜ r ≡ inside (marksOf (now (insides .entry)) []) s v ⌝ }
+// Whether vertex v is inside odd set k.
+fn is_inside(insides: &[u64], k: usize, v: usize) -> bool
+    requires { ⌜ (vertexWords * k + vertexWords ≤ length (now insides)) × (v < mostVertices) ⌝ }
+    ensures { λ r. ⌜ r ≡ isInside (now (insides .entry)) k v ⌝ }
 {
-    bits::bit_at(insides, 2 * s + v / 64, (v % 64) as u32)
+    bits::bit_at(insides, VERTEX_WORDS * k, v)
 }
 
-// Whether odd set s marks edge e.
-fn is_marked(markings: &[u64], s: usize, e: usize) -> bool
-    requires { ⌜ (16 * s + 16 ≤ length (now markings)) × (e < 1024) ⌝ }
-    ensures { λ r. ⌜ r ≡ marked (marksOf [] (now (markings .entry))) s e ⌝ }
+// Whether odd set k marks edge e.
+fn is_marked(markings: &[u64], k: usize, e: usize) -> bool
+    requires { ⌜ (edgeWords * k + edgeWords ≤ length (now markings)) × (e < mostEdges) ⌝ }
+    ensures { λ r. ⌜ r ≡ isMarked (now (markings .entry)) k e ⌝ }
 {
-    bits::bit_at(markings, 16 * s + e / 64, (e % 64) as u32)
+    bits::bit_at(markings, EDGE_WORDS * k, e)
 }
 
 // A mark as a number.
-fn number(b: bool) -> u8
+pub fn number(b: bool) -> u8
     ensures { λ r. ⌜ (r ≡ one b) × (r ≤ 1) ⌝ }
 {
     if b { 1 } else { 0 }
 }
 
-// How many ends of edge e are inside odd set s.
-fn ends_inside(
-    kind: Kind,
-    rows: u32,
-    row: &[u32],
-    column: &[u32],
-    insides: &[u64],
-    s: usize,
-    e: usize,
-) -> u32
-    requires { ⌜ (e < length (now row)) × (e < length (now column)) × (2 * s + 2 ≤ length (now insides)) ⌝ }
-    requires { ⌜ EndsFit kind rows (getD (now row) e 0) (getD (now column) e 0) ⌝ }
-    ensures { λ r. ⌜ r ≡ endsInside (graphOf kind rows 0 0 (now (row .entry)) (now (column .entry)) []) (marksOf (now (insides .entry)) []) s e ⌝ }
+// How many of an edge's ends are inside odd set k.
+fn ends_inside(ends: Ends, insides: &[u64], k: usize) -> u32
+    requires { ⌜ (ends .first < mostVertices) × (ends .second < mostVertices) × (vertexWords * k + vertexWords ≤ length (now insides)) ⌝ }
+    ensures { λ r. ⌜ r ≡ insideBy (now (insides .entry)) k (ends .first) (ends .second) ⌝ }
 {
-    let first = is_inside(insides, s, checks::first_end(row[e]));
-    let second = is_inside(insides, s, checks::second_end(kind, rows, column[e]));
+    let first = is_inside(insides, k, ends.first);
+    let second = is_inside(insides, k, ends.second);
     number(first) as u32 + number(second) as u32
 }
 
-// Whether odd set s covers edge e: it marks the edge, or both ends are inside.
-fn covers_edge(
-    kind: Kind,
-    rows: u32,
-    row: &[u32],
-    column: &[u32],
-    insides: &[u64],
-    markings: &[u64],
-    s: usize,
-    e: usize,
-) -> bool
-    requires { ⌜ EdgesFit kind rows (now row) (now column) ⌝ }
-    requires { ⌜ (e < length (now row)) × WordsFit s (now insides) (now markings) ⌝ }
-    ensures { λ r. ⌜ r ≡ covers (graphOf kind rows 0 0 (now (row .entry)) (now (column .entry)) []) (marksOf (now (insides .entry)) (now (markings .entry))) s e ⌝ }
+// Whether odd set k covers edge e: it marks the edge, or both ends are inside.
+pub fn covers_edge(e: usize, ends: Ends, insides: &[u64], markings: &[u64], k: usize) -> bool
+    requires { ⌜ (e < mostEdges) × (ends .first < mostVertices) × (ends .second < mostVertices) ⌝ }
+    requires { ⌜ (vertexWords * k + vertexWords ≤ length (now insides)) × (edgeWords * k + edgeWords ≤ length (now markings)) ⌝ }
+    ensures { λ r. ⌜ r ≡ coversBy (now (insides .entry)) (now (markings .entry)) k e (ends .first) (ends .second) ⌝ }
 {
-    if is_marked(markings, s, e) {
-        return true;
+    let marked = is_marked(markings, k, e);
+    let inside = ends_inside(ends, insides, k);
+    marked || inside == 2
+}
+
+// Whether edge e is not marked, or has exactly one end inside.
+fn edge_keeps(e: usize, ends: Ends, insides: &[u64], markings: &[u64], k: usize) -> bool
+    requires { ⌜ (e < mostEdges) × (ends .first < mostVertices) × (ends .second < mostVertices) ⌝ }
+    requires { ⌜ (vertexWords * k + vertexWords ≤ length (now insides)) × (edgeWords * k + edgeWords ≤ length (now markings)) ⌝ }
+    ensures { λ r. ⌜ r ≡ (not (isMarked (now (markings .entry)) k e) || eqb (insideBy (now (insides .entry)) k (ends .first) (ends .second)) 1) ⌝ }
+{
+    if is_marked(markings, k, e) {
+        ends_inside(ends, insides, k) == 1
+    } else {
+        true
     }
-    ends_inside(kind, rows, row, column, insides, s, e) == 2
 }
 
 // Whether no bit above n or m is set.
-fn nothing_above(
-    kind: Kind,
-    rows: u32,
-    columns: u32,
-    edges: u32,
-    insides: &[u64],
-    markings: &[u64],
-    s: usize,
-) -> bool
-    requires { ⌜ WordsFit s (now insides) (now markings) ⌝ }
-    ensures { λ r. ⌜ r ≡ nothingAbove (graphOf kind rows columns edges [] [] []) (marksOf (now (insides .entry)) (now (markings .entry))) s ⌝ }
+fn nothing_above(s: Shape, insides: &[u64], markings: &[u64], k: usize) -> bool
+    requires { ⌜ (vertexWords * k + vertexWords ≤ length (now insides)) × (edgeWords * k + edgeWords ≤ length (now markings)) ⌝ }
+    ensures { λ r. ⌜ r ≡ nothingAbove (graphOf s [] [] []) (pricesOf [] [] 0 [] (now (insides .entry)) (now (markings .entry))) k ⌝ }
 {
-    let n = checks::vertex_count(kind, rows, columns);
-    if bits::any_from(insides, 2 * s, 2, n) {
+    let n = checks::vertex_count(s);
+    if bits::any_from(insides, VERTEX_WORDS * k, VERTEX_WORDS, n) {
         return false;
     }
-    !bits::any_from(markings, 16 * s, 16, edges as u64)
+    !bits::any_from(markings, EDGE_WORDS * k, EDGE_WORDS, s.edges as u64)
 }
 
 // Whether a vertex is inside.
-fn has_vertex(kind: Kind, rows: u32, columns: u32, insides: &[u64], s: usize) -> bool
-    requires { ⌜ (verticesOf kind rows columns ≤ 128) × (2 * s + 2 ≤ length (now insides)) ⌝ }
-    ensures { λ r. ⌜ r ≡ hasVertex (graphOf kind rows columns 0 [] [] []) (marksOf (now (insides .entry)) []) s ⌝ }
+fn has_vertex(s: Shape, insides: &[u64], k: usize) -> bool
+    requires { ⌜ (verticesIn s ≤ mostVertices) × (vertexWords * k + vertexWords ≤ length (now insides)) ⌝ }
+    ensures { λ r. ⌜ r ≡ hasVertex (graphOf s [] [] []) (pricesOf [] [] 0 [] (now (insides .entry)) []) k ⌝ }
 {
-    let n = checks::vertex_count(kind, rows, columns) as usize;
+    let n = checks::vertex_count(s) as usize;
     let mut v = 0;
     while v < n {
-        if is_inside(insides, s, v) {
+        if is_inside(insides, k, v) {
             return true;
         }
         v += 1;
@@ -121,47 +112,28 @@ fn has_vertex(kind: Kind, rows: u32, columns: u32, insides: &[u64], s: usize) ->
     false
 }
 
-// Whether edge e is not marked, or has exactly one end inside.
-fn edge_keeps(
-    kind: Kind,
-    rows: u32,
-    row: &[u32],
-    column: &[u32],
-    insides: &[u64],
-    markings: &[u64],
-    s: usize,
-    e: usize,
-) -> bool
-    requires { ⌜ EdgesFit kind rows (now row) (now column) ⌝ }
-    requires { ⌜ (e < length (now row)) × WordsFit s (now insides) (now markings) ⌝ }
-    ensures { λ r. ⌜ r ≡ (not (marked (marksOf (now (insides .entry)) (now (markings .entry))) s e) || eqb (endsInside (graphOf kind rows 0 0 (now (row .entry)) (now (column .entry)) []) (marksOf (now (insides .entry)) (now (markings .entry))) s e) 1) ⌝ }
-{
-    if is_marked(markings, s, e) {
-        ends_inside(kind, rows, row, column, insides, s, e) == 1
-    } else {
-        true
-    }
-}
-
 // Whether each marked edge has exactly one end inside.
 fn one_end_inside(
-    kind: Kind,
-    rows: u32,
-    edges: u32,
+    s: Shape,
     row: &[u32],
     column: &[u32],
     insides: &[u64],
     markings: &[u64],
-    s: usize,
+    k: usize,
 ) -> bool
-    requires { ⌜ EdgesFit kind rows (now row) (now column) ⌝ }
-    requires { ⌜ (length (now row) ≡ edges) × WordsFit s (now insides) (now markings) ⌝ }
-    ensures { λ r. ⌜ r ≡ oneEndInside (graphOf kind rows 0 edges (now (row .entry)) (now (column .entry)) []) (marksOf (now (insides .entry)) (now (markings .entry))) s ⌝ }
+    requires { ⌜ Sound s (now row) (now column) ⌝ }
+    requires { ⌜ (vertexWords * k + vertexWords ≤ length (now insides)) × (edgeWords * k + edgeWords ≤ length (now markings)) ⌝ }
+    ensures { λ r. ⌜ r ≡ oneEndInside (graphOf s (now (row .entry)) (now (column .entry)) []) (pricesOf [] [] 0 [] (now (insides .entry)) (now (markings .entry))) k ⌝ }
 {
-    let m = edges as usize;
     let mut e = 0;
-    while e < m {
-        if edge_keeps(kind, rows, row, column, insides, markings, s, e) {
+    while e < row.len() {
+        if edge_keeps(
+            e,
+            checks::ends_of(s, row[e], column[e]),
+            insides,
+            markings,
+            k,
+        ) {
             e += 1;
         } else {
             return false;
@@ -171,12 +143,12 @@ fn one_end_inside(
 }
 
 // The bound of vertex v where it is inside, else 0.
-fn bound_inside(bound: &[i32], insides: &[u64], s: usize, v: usize) -> u32
-    requires { ⌜ (v < length (now bound)) × (v < 128) × (2 * s + 2 ≤ length (now insides)) ⌝ }
-    requires { ⌜ (pos 0 ≤ℤ getD (now bound) v (pos 0)) × (getD (now bound) v (pos 0) ≤ℤ pos 64) ⌝ }
-    ensures { λ r. ⌜ (r ≡ one (inside (marksOf (now (insides .entry)) []) s v) * up (getD (now (bound .entry)) v (pos 0))) × (r ≤ 64) ⌝ }
+fn bound_inside(bound: &[i32], insides: &[u64], k: usize, v: usize) -> u32
+    requires { ⌜ (v < length (now bound)) × (v < mostVertices) × (vertexWords * k + vertexWords ≤ length (now insides)) ⌝ }
+    requires { ⌜ (pos 0 ≤ℤ boundAt (now bound) v) × (boundAt (now bound) v ≤ℤ pos greatestBound) ⌝ }
+    ensures { λ r. ⌜ (r ≡ one (isInside (now (insides .entry)) k v) * up (boundAt (now (bound .entry)) v)) × (r ≤ greatestBound) ⌝ }
 {
-    if is_inside(insides, s, v) {
+    if is_inside(insides, k, v) {
         integers::natural(bound[v])
     } else {
         0
@@ -184,275 +156,188 @@ fn bound_inside(bound: &[i32], insides: &[u64], s: usize, v: usize) -> u32
 }
 
 // The bounds of the vertices inside, added up.
-fn bounds_inside(
-    kind: Kind,
-    rows: u32,
-    columns: u32,
-    bound: &[i32],
-    insides: &[u64],
-    s: usize,
-) -> u32
-    requires { ⌜ BoundsFit (verticesOf kind rows columns) (now bound) × (2 * s + 2 ≤ length (now insides)) ⌝ }
-    ensures { λ r. ⌜ (r ≡ sum (verticesOf kind rows columns) (λ v. one (inside (marksOf (now (insides .entry)) []) s v) * up (getD (now (bound .entry)) v (pos 0)))) × (r ≤ 8192) ⌝ }
+fn bounds_inside(s: Shape, bound: &[i32], insides: &[u64], k: usize) -> u32
+    requires { ⌜ Bounded (verticesIn s) (now bound) × (verticesIn s ≤ mostVertices) ⌝ }
+    requires { ⌜ vertexWords * k + vertexWords ≤ length (now insides) ⌝ }
+    ensures { λ r. ⌜ (r ≡ sum (verticesIn s) (λ v. one (isInside (now (insides .entry)) k v) * up (boundAt (now (bound .entry)) v))) × (r ≤ greatestBound * mostVertices) ⌝ }
 {
-    let n = checks::vertex_count(kind, rows, columns) as usize;
+    let n = checks::vertex_count(s) as usize;
     let mut total = 0;
     let mut v = 0;
     while v < n {
-        total += bound_inside(bound, insides, s, v);
+        total += bound_inside(bound, insides, k, v);
         v += 1;
     }
     total
 }
 
-// The bounds of the vertices inside plus the marked edges, which are counted word by word.
-fn load(
-    kind: Kind,
-    rows: u32,
-    columns: u32,
-    edges: u32,
-    bound: &[i32],
-    insides: &[u64],
-    markings: &[u64],
-    s: usize,
-) -> u32
-    requires { ⌜ BoundsFit (verticesOf kind rows columns) (now bound) ⌝ }
-    requires { ⌜ (edges ≤ 1024) × WordsFit s (now insides) (now markings) ⌝ }
-    ensures { λ r. ⌜ (r ≡ load (graphOf kind rows columns edges [] [] []) (now (bound .entry)) (marksOf (now (insides .entry)) (now (markings .entry))) s) × (r ≤ 9216) ⌝ }
+// The load: the bounds of the vertices inside plus the marked edges, which are counted word by word.
+fn load_of(s: Shape, bound: &[i32], insides: &[u64], markings: &[u64], k: usize) -> u32
+    requires { ⌜ Bounded (verticesIn s) (now bound) × (verticesIn s ≤ mostVertices) × (s .edges ≤ mostEdges) ⌝ }
+    requires { ⌜ (vertexWords * k + vertexWords ≤ length (now insides)) × (edgeWords * k + edgeWords ≤ length (now markings)) ⌝ }
+    ensures { λ r. ⌜ (r ≡ load (graphOf s [] [] []) (now (bound .entry)) (pricesOf [] [] 0 [] (now (insides .entry)) (now (markings .entry))) k) × (r ≤ greatestBound * mostVertices + mostEdges) ⌝ }
 {
-    bounds_inside(kind, rows, columns, bound, insides, s)
-        + bits::ones(markings, 16 * s, 16, edges as u64)
+    bounds_inside(s, bound, insides, k)
+        + bits::ones(markings, EDGE_WORDS * k, EDGE_WORDS, s.edges as u64)
 }
 
-// The capacity: half the load, rounded down.
-pub fn capacity(
-    kind: Kind,
-    rows: u32,
-    columns: u32,
-    edges: u32,
-    bound: &[i32],
-    insides: &[u64],
-    markings: &[u64],
-    s: usize,
-) -> u32
-    requires { ⌜ BoundsFit (verticesOf kind rows columns) (now bound) ⌝ }
-    requires { ⌜ (edges ≤ 1024) × WordsFit s (now insides) (now markings) ⌝ }
-    ensures { λ r. ⌜ (r ≡ capacity (graphOf kind rows columns edges [] [] []) (now (bound .entry)) (marksOf (now (insides .entry)) (now (markings .entry))) s) × (r ≤ 4608) ⌝ }
+// The number of odd sets, or most where there are more.
+fn up_to(sets: u32, most: usize) -> usize
+    ensures { λ r. ⌜ r ≡ min sets most ⌝ }
 {
-    load(kind, rows, columns, edges, bound, insides, markings, s) / 2
+    let count = sets as usize;
+    if count < most { count } else { most }
 }
 
-// Whether odd set s keeps the rules.
+// The loads of all odd sets, of the first 16 where there are more. A capacity is half the load, rounded down.
+pub fn load_table(
+    s: Shape,
+    bound: &[i32],
+    sets: u32,
+    insides: &[u64],
+    markings: &[u64],
+) -> [u32; MOST_SETS]
+    requires { ⌜ Bounded (verticesIn s) (now bound) × (verticesIn s ≤ mostVertices) × (s .edges ≤ mostEdges) ⌝ }
+    requires { ⌜ (length (now insides) ≡ vertexWords * sets) × (length (now markings) ≡ edgeWords * sets) ⌝ }
+    ensures { λ r. ⌜ ((k : ℕ) → k < min sets mostSets → (getD r k 0 ≡ load (graphOf s [] [] []) (now (bound .entry)) (pricesOf [] [] 0 [] (now (insides .entry)) (now (markings .entry))) k) × (getD r k 0 ≤ greatestBound * mostVertices + mostEdges)) ⌝ }
+{
+    let mut table = [0u32; MOST_SETS];
+    let count = up_to(sets, MOST_SETS);
+    let mut k = 0;
+    while k < count {
+        table[k] = load_of(s, bound, insides, markings, k);
+        k += 1;
+    }
+    table
+}
+
+// Whether odd set k, whose load is this, keeps the rules.
 fn keeps_rules(
-    kind: Kind,
-    rows: u32,
-    columns: u32,
-    edges: u32,
+    s: Shape,
     row: &[u32],
     column: &[u32],
-    bound: &[i32],
+    load: u32,
     insides: &[u64],
     markings: &[u64],
-    s: usize,
+    k: usize,
 ) -> bool
-    requires { ⌜ EdgesFit kind rows (now row) (now column) ⌝ }
-    requires { ⌜ BoundsFit (verticesOf kind rows columns) (now bound) ⌝ }
-    requires { ⌜ (length (now row) ≡ edges) × WordsFit s (now insides) (now markings) ⌝ }
-    ensures { λ r. ⌜ r ≡ keepsRules (graphOf kind rows columns edges (now (row .entry)) (now (column .entry)) []) (now (bound .entry)) (marksOf (now (insides .entry)) (now (markings .entry))) s ⌝ }
+    requires { ⌜ Sound s (now row) (now column) ⌝ }
+    requires { ⌜ (vertexWords * k + vertexWords ≤ length (now insides)) × (edgeWords * k + edgeWords ≤ length (now markings)) ⌝ }
+    ensures { λ r. ⌜ r ≡ keepsRulesBy (graphOf s (now (row .entry)) (now (column .entry)) []) (pricesOf [] [] 0 [] (now (insides .entry)) (now (markings .entry))) k load ⌝ }
 {
-    if !nothing_above(kind, rows, columns, edges, insides, markings, s) {
+    if !nothing_above(s, insides, markings, k) {
         return false;
     }
-    if !has_vertex(kind, rows, columns, insides, s) {
+    if !has_vertex(s, insides, k) {
         return false;
     }
-    if !one_end_inside(kind, rows, edges, row, column, insides, markings, s) {
-        return false;
-    }
-    load(kind, rows, columns, edges, bound, insides, markings, s) % 2 == 1
+    let one_end = one_end_inside(s, row, column, insides, markings, k);
+    checks::both(one_end, load % 2 == 1)
 }
 
-// Whether odd set s is one of the first 16 and keeps the rules.
+// Whether odd set k is one of the first 16 and keeps the rules.
 fn is_allowed(
-    kind: Kind,
-    rows: u32,
-    columns: u32,
-    edges: u32,
+    s: Shape,
     row: &[u32],
     column: &[u32],
-    bound: &[i32],
+    load: [u32; MOST_SETS],
     insides: &[u64],
     markings: &[u64],
-    s: usize,
+    k: usize,
 ) -> bool
-    requires { ⌜ EdgesFit kind rows (now row) (now column) ⌝ }
-    requires { ⌜ BoundsFit (verticesOf kind rows columns) (now bound) ⌝ }
-    requires { ⌜ (length (now row) ≡ edges) × WordsFit s (now insides) (now markings) ⌝ }
-    ensures { λ r. ⌜ r ≡ (ltb s 16 && keepsRules (graphOf kind rows columns edges (now (row .entry)) (now (column .entry)) []) (now (bound .entry)) (marksOf (now (insides .entry)) (now (markings .entry))) s) ⌝ }
+    requires { ⌜ Sound s (now row) (now column) ⌝ }
+    requires { ⌜ (vertexWords * k + vertexWords ≤ length (now insides)) × (edgeWords * k + edgeWords ≤ length (now markings)) ⌝ }
+    ensures { λ r. ⌜ r ≡ (ltb k mostSets && keepsRulesBy (graphOf s (now (row .entry)) (now (column .entry)) []) (pricesOf [] [] 0 [] (now (insides .entry)) (now (markings .entry))) k (getD load k 0)) ⌝ }
 {
-    if s < 16 {
-        keeps_rules(
-            kind,
-            rows,
-            columns,
-            edges,
-            row,
-            column,
-            bound,
-            insides,
-            markings,
-            s,
-        )
+    if k < MOST_SETS {
+        keeps_rules(s, row, column, load[k], insides, markings, k)
     } else {
         false
     }
 }
 
-// How many odd sets are tested: a 17th is one too many.
-fn tested(sets: u32) -> usize
-    ensures { λ r. ⌜ r ≡ min sets 17 ⌝ }
-{
-    if sets < 17 { sets as usize } else { 17 }
-}
-
-// The lowest odd set that breaks a rule, or the 17th.
+// The lowest odd set that breaks a rule, or the 17th; their loads are told.
 pub fn lowest_set(
-    kind: Kind,
-    rows: u32,
-    columns: u32,
-    edges: u32,
+    s: Shape,
     row: &[u32],
     column: &[u32],
-    bound: &[i32],
+    load: [u32; MOST_SETS],
     sets: u32,
     insides: &[u64],
     markings: &[u64],
 ) -> Lowest
-    requires { ⌜ EdgesFit kind rows (now row) (now column) ⌝ }
-    requires { ⌜ BoundsFit (verticesOf kind rows columns) (now bound) ⌝ }
-    requires { ⌜ (length (now row) ≡ edges) × (length (now insides) ≡ 2 * sets) × (length (now markings) ≡ 16 * sets) ⌝ }
-    ensures { λ r. ⌜ lowestSays r ≡ lowest (min sets 17) (λ s. ltb s 16 && keepsRules (graphOf kind rows columns edges (now (row .entry)) (now (column .entry)) []) (now (bound .entry)) (marksOf (now (insides .entry)) (now (markings .entry))) s) ⌝ }
+    requires { ⌜ Sound s (now row) (now column) ⌝ }
+    requires { ⌜ (length (now insides) ≡ vertexWords * sets) × (length (now markings) ≡ edgeWords * sets) ⌝ }
+    ensures { λ r. ⌜ lowestSays r ≡ lowest (min sets (mostSets + 1)) (λ k. ltb k mostSets && keepsRulesBy (graphOf s (now (row .entry)) (now (column .entry)) []) (pricesOf [] [] 0 [] (now (insides .entry)) (now (markings .entry))) k (getD load k 0)) ⌝ }
 {
-    let count = tested(sets);
-    let mut s = 0;
-    while s < count {
-        if is_allowed(
-            kind,
-            rows,
-            columns,
-            edges,
-            row,
-            column,
-            bound,
-            insides,
-            markings,
-            s,
-        ) {
-            s += 1;
+    let count = up_to(sets, MOST_SETS + 1);
+    let mut k = 0;
+    while k < count {
+        if is_allowed(s, row, column, load, insides, markings, k) {
+            k += 1;
         } else {
-            return Lowest::At(s);
+            return Lowest::At(k);
         }
     }
     Lowest::Nothing
 }
 
-// The mark of edge e where odd set s covers it, else 0.
-fn mark_covered(
-    kind: Kind,
-    rows: u32,
-    row: &[u32],
-    column: &[u32],
-    chosen: &[u8],
-    insides: &[u64],
-    markings: &[u64],
-    s: usize,
-    e: usize,
-) -> u32
-    requires { ⌜ EdgesFit kind rows (now row) (now column) ⌝ }
-    requires { ⌜ (e < length (now row)) × (e < length (now chosen)) × WordsFit s (now insides) (now markings) ⌝ }
-    requires { ⌜ getD (now chosen) e 0 ≤ 1 ⌝ }
-    ensures { λ r. ⌜ (r ≡ markAt (now (chosen .entry)) e * one (covers (graphOf kind rows 0 0 (now (row .entry)) (now (column .entry)) []) (marksOf (now (insides .entry)) (now (markings .entry))) s e)) × (r ≤ 1) ⌝ }
+// The mark of edge e where odd set k covers it, else 0.
+fn mark_covered(e: usize, ends: Ends, mark: u8, insides: &[u64], markings: &[u64], k: usize) -> u32
+    requires { ⌜ (e < mostEdges) × (ends .first < mostVertices) × (ends .second < mostVertices) × (mark ≤ 1) ⌝ }
+    requires { ⌜ (vertexWords * k + vertexWords ≤ length (now insides)) × (edgeWords * k + edgeWords ≤ length (now markings)) ⌝ }
+    ensures { λ r. ⌜ (r ≡ mark * one (coversBy (now (insides .entry)) (now (markings .entry)) k e (ends .first) (ends .second))) × (r ≤ 1) ⌝ }
 {
-    if covers_edge(kind, rows, row, column, insides, markings, s, e) {
-        chosen[e] as u32
-    } else {
-        0
+    if mark == 0 {
+        return 0;
     }
+    number(covers_edge(e, ends, insides, markings, k)) as u32
 }
 
-// How many chosen edges odd set s covers.
-pub fn chosen_covered(
-    kind: Kind,
-    rows: u32,
-    edges: u32,
+// How many chosen edges odd set k covers.
+fn covered_by(
+    s: Shape,
     row: &[u32],
     column: &[u32],
     chosen: &[u8],
     insides: &[u64],
     markings: &[u64],
-    s: usize,
+    k: usize,
 ) -> u32
-    requires { ⌜ EdgesFit kind rows (now row) (now column) ⌝ }
-    requires { ⌜ (length (now row) ≡ edges) × (length (now chosen) ≡ edges) × WordsFit s (now insides) (now markings) ⌝ }
-    requires { ⌜ ((e : ℕ) → e < length (now chosen) → getD (now chosen) e 0 ≤ 1) ⌝ }
-    ensures { λ r. ⌜ (r ≡ chosenCovered (graphOf kind rows 0 edges (now (row .entry)) (now (column .entry)) []) (now (chosen .entry)) (marksOf (now (insides .entry)) (now (markings .entry))) s) × (r ≤ 1024) ⌝ }
+    requires { ⌜ Sound s (now row) (now column) × MarksHold (s .edges) (now chosen) ⌝ }
+    requires { ⌜ (vertexWords * k + vertexWords ≤ length (now insides)) × (edgeWords * k + edgeWords ≤ length (now markings)) ⌝ }
+    ensures { λ r. ⌜ (r ≡ chosenCovered (graphOf s (now (row .entry)) (now (column .entry)) []) (now (chosen .entry)) (pricesOf [] [] 0 [] (now (insides .entry)) (now (markings .entry))) k) × (r ≤ mostEdges) ⌝ }
 {
-    let m = edges as usize;
     let mut total = 0;
     let mut e = 0;
-    while e < m {
-        total += mark_covered(kind, rows, row, column, chosen, insides, markings, s, e);
+    while e < chosen.len() {
+        let ends = checks::ends_of(s, row[e], column[e]);
+        total += mark_covered(e, ends, chosen[e], insides, markings, k);
         e += 1;
     }
     total
 }
 
-// The price of odd set s where it covers edge e, else 0.
-fn price_covering(
-    kind: Kind,
-    rows: u32,
+// How many chosen edges each odd set covers.
+pub fn covered_table(
+    s: Shape,
     row: &[u32],
     column: &[u32],
-    price: &[i32],
-    insides: &[u64],
-    markings: &[u64],
-    s: usize,
-    e: usize,
-) -> i64
-    requires { ⌜ EdgesFit kind rows (now row) (now column) ⌝ }
-    requires { ⌜ (e < length (now row)) × (s < length (now price)) × WordsFit s (now insides) (now markings) ⌝ }
-    ensures { λ r. ⌜ (r ≡ pos (one (covers (graphOf kind rows 0 0 (now (row .entry)) (now (column .entry)) []) (marksOf (now (insides .entry)) (now (markings .entry))) s e)) *ℤ getD (now (price .entry)) s (pos 0)) × Within (2 ^ 31) r ⌝ }
-{
-    let covering = covers_edge(kind, rows, row, column, insides, markings, s, e);
-    integers::if_chosen(number(covering), integers::element(price, s))
-}
-
-// The prices of all odd sets that cover edge e, added up.
-pub fn set_cover(
-    kind: Kind,
-    rows: u32,
-    row: &[u32],
-    column: &[u32],
+    chosen: &[u8],
     sets: u32,
-    price: &[i32],
     insides: &[u64],
     markings: &[u64],
-    e: usize,
-) -> i64
-    requires { ⌜ EdgesFit kind rows (now row) (now column) ⌝ }
-    requires { ⌜ (e < length (now row)) × (sets ≤ 16) × (length (now price) ≡ sets) ⌝ }
-    requires { ⌜ (length (now insides) ≡ 2 * sets) × (length (now markings) ≡ 16 * sets) ⌝ }
-    ensures { λ r. ⌜ (r ≡ sumℤ sets (λ s. pos (one (covers (graphOf kind rows 0 0 (now (row .entry)) (now (column .entry)) []) (marksOf (now (insides .entry)) (now (markings .entry))) s e)) *ℤ setPrice (pricesOf [] [] sets (now (price .entry)) (now (insides .entry)) (now (markings .entry))) s)) × Within (2 ^ 35) r ⌝ }
+) -> [u32; MOST_SETS]
+    requires { ⌜ Sound s (now row) (now column) × MarksHold (s .edges) (now chosen) ⌝ }
+    requires { ⌜ (sets ≤ mostSets) × (length (now insides) ≡ vertexWords * sets) × (length (now markings) ≡ edgeWords * sets) ⌝ }
+    ensures { λ r. ⌜ ((k : ℕ) → k < sets → (getD r k 0 ≡ chosenCovered (graphOf s (now (row .entry)) (now (column .entry)) []) (now (chosen .entry)) (pricesOf [] [] 0 [] (now (insides .entry)) (now (markings .entry))) k) × (getD r k 0 ≤ mostEdges)) ⌝ }
 {
+    let mut table = [0u32; MOST_SETS];
     let count = sets as usize;
-    let mut total = 0;
-    let mut s = 0;
-    while s < count {
-        total = integers::add(
-            total,
-            price_covering(kind, rows, row, column, price, insides, markings, s, e),
-        );
-        s += 1;
+    let mut k = 0;
+    while k < count {
+        table[k] = covered_by(s, row, column, chosen, insides, markings, k);
+        k += 1;
     }
-    total
+    table
 }

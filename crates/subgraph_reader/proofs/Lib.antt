@@ -1,4 +1,3 @@
-pub mod Tested
 pub mod OnLine
 pub mod Marks
-pub mod Whole
+pub mod Tested

@@ -1,76 +1,75 @@
 -- The subgraph reader's loop, on plain values: the output holds the marks so far.
 use Prim.Native.Nat.{ℕ, _+_, _<_, _≤_}
 use mathlib.Core.Path.{_≡_, refl, sym, ap, _∙_, subst}
-use mathlib.Core.Bool.{Bool}
 use mathlib.Core.List.{List}
 use native.Mathlib.Omega.{arith}
 use lib.Dec.{ltb}
-use lib.IntN.{ℤ}
 use lib.ListN.{length, set, length-set}
 use borrow.Author.Tests.{ltb-true}
+use Rattle.graph.specs.declared.Fault.{Fault}
 use Rattle.graph.specs.declared.Refusal.{Refusal}
-use Rattle.graph.specs.Refusal.{Outcome, yields, refuses, reported}
+use Rattle.graph.specs.Refusal.{yields, refuses, reported}
 use Rattle.graph.specs.Graph.{Graph}
-use Rattle.layout.specs.Lines.{reading}
-use Rattle.layout.specs.SubgraphText.{subgraphLayout}
+use Rattle.layout.specs.declared.SubgraphAnswer.{SubgraphAnswer}
+use Rattle.layout.specs.declared.SubgraphAnswer.the-variants as SubgraphAnswer
+use Rattle.layout.specs.Text.{words, natural, twoWords}
+use Rattle.layout.specs.Lines.{reading, readText}
+use Rattle.layout.specs.SubgraphText.{subgraphEdge, subgraphLayout}
 use Rattle.text.specs.declared.Cursor.{Cursor}
-use Rattle.phases.specs.Phase.{Reached, from}
-use Rattle.outputs.specs.Holding.{Holds}
-use Rattle.outputs.proofs.Filling.{filled-all, holds-refused, holds-yields}
-use Rattle.subgraph_reader.specs.Turn.{marked, EdgeInside, SizesReached, nextSays, Taken, NextInside}
-use Rattle.subgraph_reader.specs.declared.Sizes.{Sizes}
-use Rattle.subgraph_reader.specs.declared.Sizes.the-variants as Sizes
-use Rattle.subgraph_reader.specs.declared.EdgeLine.{EdgeLine}
-use Rattle.subgraph_reader.specs.declared.EdgeLine.the-variants as EdgeLine
-use Rattle.subgraph_reader.specs.declared.NextEdge.{NextEdge}
-use Rattle.subgraph_reader.specs.declared.NextEdge.the-variants as NextEdge
+use Rattle.lines.specs.declared.Later.{Later}
+use Rattle.lines.specs.declared.Later.the-variants as Later
+use Rattle.lines.specs.Found.{part}
+use Rattle.lines.specs.Walk.{LaterAs, laterMet, Walk}
+use Rattle.lines.proofs.Walk.{later-found, later-refused, later-yields, later-goes, later-stops}
+use Rattle.lent.proofs.Filling.{filled-all, holds-refused, holds-yields}
+use Rattle.subgraph_reader.specs.OnLine.{soFar, withMark, choiceSays, ChoiceInside, SubgraphReading}
+use Rattle.subgraph_reader.specs.declared.Choice.{Choice}
+use Rattle.subgraph_reader.specs.declared.Choice.the-variants as Choice
 
--- What the answers show.
-pub sizes-reached : {s : List ℕ} {r : Sizes} {k : ℕ} {c : Cursor} → SizesReached s r → r ≡ Sizes.At k c → Reached s c
-sizes-reached {s} w is = subst (SizesReached s) is w
+-- A refusal reports itself, whatever the output holds.
+pub read-refused : (g : Graph) {s out : List ℕ} (x : Refusal) → refuses (x .fault) (x .place) ≡ readText (subgraphLayout g) s →
+    SubgraphReading g s (SubgraphAnswer.Refused x) out
+read-refused g x e = record { says = ap (reported (λ y. tt {0})) e; holds = holds-refused (sym e) }
 
-pub edge-inside : {m : ℕ} {r : EdgeLine} {e : ℕ} → EdgeInside m r → r ≡ EdgeLine.Is e → e < m
-edge-inside {m} w is = subst (EdgeInside m) is w
-
-pub taken : {s : List ℕ} {c d : Cursor} {m : ℕ} {more : Bool} {r : NextEdge} {e : ℕ} → NextInside s c m more r → r ≡ NextEdge.Is e d → Taken s c m more e d
-taken {s} {c} {d} {m} {more} w is = subst (NextInside s c m more) is w
-
-pub refused-inside : (s : List ℕ) (c : Cursor) (m : ℕ) (more : Bool) {r : NextEdge} {f : Refusal} → r ≡ NextEdge.Refused f → NextInside s c m more r
-refused-inside s c m more is = subst (NextInside s c m more) (sym is) tt
-
--- What is reported: that the text was read, or a refusal.
-abbrev pub told : Outcome (List ℕ) → Outcome (Unit {0})
-told = reported (λ x. tt)
-
--- Of count chosen edges some came, and W is what reading yields, whatever the weights are.
-pub record Turn (g : List ℤ → Graph) (s : List ℕ) (n count : ℕ) (W : List ℤ → Outcome (List ℕ)) (chosen : List ℕ) (c : Cursor) (came : ℕ) : Type 0 where
-  pub reached : Reached s c
-  pub whole : (w : List ℤ) → from (subgraphLayout (g w)) s (reading (marked count came chosen)) c ≡ W w
+-- Of count chosen edges some came.
+pub record MarkTurn (g : Graph) (s : List ℕ) (count : ℕ) (chosen : List ℕ) (c : Cursor) (came : ℕ) : Type 0 where
+  pub walk : Walk (subgraphLayout g) s c (reading (soFar count came chosen))
   pub room : came ≤ count
-  pub long : length chosen ≡ n
+  pub long : length chosen ≡ g .edges
 
-module _ {g : List ℤ → Graph} {s : List ℕ} {n count : ℕ} {W : List ℤ → Outcome (List ℕ)} {chosen : List ℕ} {c : Cursor} {came : ℕ} (T : Turn g s n count W chosen c came) where
+module _ {g : Graph} {s : List ℕ} {count : ℕ} {chosen : List ℕ} {c : Cursor} {came : ℕ} (T : MarkTurn g s count chosen c came) where
   -- What comes next says what reading yields.
-  module _ {r : NextEdge} (says : (w : List ℤ) (k i : ℕ) → ltb i k ≡ ltb came count → nextSays (g w) s (marked k i chosen) r ≡ from (subgraphLayout (g w)) s (reading (marked k i chosen)) c) where
-    turn-says : (m : NextEdge) → r ≡ m → (w : List ℤ) → nextSays (g w) s (marked count came chosen) m ≡ W w
-    turn-says m is w = ap (nextSays (g w) s (marked count came chosen)) (sym is) ∙ says w count came refl ∙ T .whole w
+  module _ {r : Later} (F : LaterAs s c (ltb came count) (laterMet s c (ltb came count)) r) where
+    pub turn-done : r ≡ Later.Done → SubgraphReading g s SubgraphAnswer.Read chosen
+    turn-done is =
+        let e : yields chosen ≡ readText (subgraphLayout g) s = later-yields (subgraphLayout g) (T .walk) refl F is in
+        record { says = ap (reported (λ y. tt {0})) e; holds = holds-yields (sym e) (sym (filled-all (g .edges) 0 chosen (T .long))) }
 
-    pub turn-done : r ≡ NextEdge.Done → ((w : List ℤ) → told (yields chosen) ≡ told (W w)) × ((w : List ℤ) → Holds n 0 (λ x. x) (W w) chosen)
-    turn-done is = (
-      λ w. ap told (turn-says NextEdge.Done is w),
-      λ w. holds-yields (sym (turn-says NextEdge.Done is w)) (sym (filled-all n 0 chosen (T .long))),
-    )
+    pub turn-refused : {x : Refusal} → r ≡ Later.Refused x → SubgraphReading g s (SubgraphAnswer.Refused x) chosen
+    turn-refused {x} is = read-refused g x (later-refused (subgraphLayout g) (T .walk) refl F is)
 
-    pub turn-refused : {f : Refusal} → r ≡ NextEdge.Refused f → ((w : List ℤ) → refuses (f .fault) (f .place) ≡ told (W w)) × ((w : List ℤ) → Holds n 0 (λ x. x) (W w) chosen)
-    turn-refused {f} is = (
-      λ w. ap told (turn-says (NextEdge.Refused f) is w),
-      λ w. holds-refused (sym (turn-says (NextEdge.Refused f) is w)),
-    )
+    module _ {a e : ℕ} {d : Cursor} (is : r ≡ Later.At a e d) where
+      pub turn-below : came < count
+      turn-below = ltb-true came count (later-found F is .1)
 
-    pub turn-takes : {m e : ℕ} {d : Cursor} → r ≡ NextEdge.Is e d → Taken s c m (ltb came count) e d → Turn g s n count W (set chosen e 1) d (came + 1)
-    turn-takes {m} {e} {d} is t = record {
-      reached = t .reached;
-      whole = turn-says (NextEdge.Is e d) is;
-      room = omega (arith, ltb-true came count (t .wanted));
-      long = length-set chosen e 1 ∙ T .long;
-    }
+      module _ {l : Choice}
+          (does : (k i : ℕ) → choiceSays (soFar k i chosen) l ≡ subgraphEdge g (soFar k i chosen) (twoWords natural natural (words (part s a e))))
+        where
+          line-does : (o : Choice) → l ≡ o →
+              subgraphEdge g (soFar count came chosen) (twoWords natural natural (words (part s a e))) ≡ choiceSays (soFar count came chosen) o
+          line-does o it = sym (does count came) ∙ ap (choiceSays (soFar count came chosen)) it
+
+          pub turn-stops : {f : Fault} → l ≡ Choice.Refused f → {x : Refusal} → x ≡ record { fault = f; place = d .line } →
+              SubgraphReading g s (SubgraphAnswer.Refused x) chosen
+          turn-stops {f} it {x} same = read-refused g x (later-stops (subgraphLayout g) (T .walk) refl F is f (line-does (Choice.Refused f) it) same)
+
+          pub turn-takes : {k : ℕ} → l ≡ Choice.Is k → MarkTurn g s count (set chosen k 1) d (came + 1)
+          turn-takes {k} it = record {
+            walk = later-goes (subgraphLayout g) (T .walk) refl F is (withMark (soFar count came chosen) k) (line-does (Choice.Is k) it);
+            room = omega (arith, turn-below);
+            long = length-set chosen k 1 ∙ T .long;
+          }
+
+-- An edge that a line names is one of the graph's.
+pub choice-inside : {m : ℕ} {r : Choice} {e : ℕ} → ChoiceInside m r → r ≡ Choice.Is e → e < m
+choice-inside {m} w is = subst (ChoiceInside m) is w

@@ -1,48 +1,52 @@
 -- What a header line, a size line and a later line of a subgraph's text do, by what they are.
 use Prim.Native.Nat.{ℕ, _<_}
-use mathlib.Core.Path.{_≡_, sym, ap, ap₂, _∙_}
+use mathlib.Core.Path.{_≡_, refl, sym, ap, ap₂, _∙_}
 use mathlib.Core.Bool.{Bool, true, false, not, cond, _&&_}
-use mathlib.Core.List.{List, [], _∷_}
+use mathlib.Core.List.{List, []}
 use mathlib.Core.Option.{Option, none, some}
-use lib.Dec.{eqb, leb}
+use lib.Dec.{eqb, leb, ltb}
+use lib.IntN.{ℤ}
 use lib.ListN.{getD, replicate}
+use borrow.Author.Tests.{not-true, not-false}
 use Rattle.graph.specs.declared.Kind.{Kind}
-use Rattle.graph.specs.declared.Kind.the-variants.{Bipartite, General}
+use Rattle.graph.specs.declared.Shape.{Shape}
 use Rattle.graph.specs.declared.Fault.the-variants.{Header, SizeLine, Sizes, LaterLine, Ends, SameEnds, Disagreement}
-use Rattle.graph.specs.Graph.{Graph, sizesInRange, endsInRange, joins}
+use Rattle.graph.specs.Refusal.{lowest}
+use Rattle.graph.specs.Graph.{Graph, graphOf, sizesInRange, endsInRange, joins}
 use Rattle.graph.proofs.Passing.{lowest-some}
 use Rattle.checks.specs.declared.Lowest.{Lowest}
 use Rattle.checks.specs.declared.Lowest.the-variants as Lowest
 use Rattle.checks.specs.Checks.{lowestSays}
-use Rattle.layout.specs.Text.{bytes, header}
 use Rattle.layout.specs.Lines.{Step, goes, stops}
-use Rattle.layout.specs.SubgraphText.{Marked, subgraphKind, sameKind, subgraphHeader, subgraphSizes, edgeWith, subgraphMark, subgraphEdge}
+use Rattle.layout.specs.SubgraphText.{Marked, subgraphKind, sameKind, subgraphHeader, subgraphSizes, edgeWith, subgraphMark, subgraphEdge, subgraphLayout}
+use Rattle.layout.specs.GraphText.{noEdges}
+use Rattle.layout.specs.Text.{words, natural, twoWords, threeWords}
 use Rattle.text.specs.declared.Pair.{Pair}
 use Rattle.text.specs.declared.Pair.the-variants as Pair
 use Rattle.text.specs.declared.Triple.{Triple}
 use Rattle.text.specs.declared.Triple.the-variants as Triple
-use Rattle.text.specs.Cursor.{pairSays, tripleSays}
-use Rattle.subgraph_reader.specs.declared.HeaderKind.{HeaderKind}
-use Rattle.subgraph_reader.specs.declared.HeaderKind.the-variants as HeaderKind
-use Rattle.subgraph_reader.specs.Turn.{kindSays, marked, withMark}
-
--- The kind that a line tells, by whether it is one of the two headers.
-pub kind-told :
-    (l : List ℕ) (a b : Bool) → header (bytes "matrix" ∷ bytes "coordinate" ∷ bytes "pattern" ∷ bytes "general" ∷ []) l ≡ a
-    → header (bytes "matrix" ∷ bytes "coordinate" ∷ bytes "pattern" ∷ bytes "symmetric" ∷ []) l ≡ b
-    → cond a (some Bipartite) (cond b (some General) none) ≡ subgraphKind l
-kind-told l a b e f =
-    ap₂ (λ (x y : Bool). cond {A = Option Kind} x (some Bipartite) (cond {A = Option Kind} y (some General) none)) (sym e) (sym f)
+use Rattle.text.specs.Cursor.{pairSays, tripleSays, kindSays}
+use Rattle.text.specs.declared.HeaderKind.{HeaderKind}
+use Rattle.text.specs.declared.HeaderKind.the-variants as HeaderKind
+use Rattle.subgraph_reader.specs.OnLine.{soFar, chosenSays, withMark}
+use Rattle.subgraph_reader.specs.declared.ChosenLine.{ChosenLine}
 
 -- The header line.
-module _ {o : Option Kind} {r : HeaderKind} (says : kindSays r ≡ o) where
-  pub header-bad : r ≡ HeaderKind.Not → (g : Graph) → stops Header ≡ subgraphHeader g o
-  header-bad is g = ap (subgraphHeader g) (sym (ap kindSays is) ∙ says)
+module _ (g : Graph) {o : Option Kind} {r : HeaderKind} (says : kindSays r ≡ o) where
+  pub header-not : r ≡ HeaderKind.Not → subgraphHeader g o ≡ stops Header
+  header-not is = ap (subgraphHeader g) (sym says ∙ ap kindSays is)
 
-  pub header-does : {told kind : Kind} (b : Bool) → r ≡ HeaderKind.Is told → sameKind told kind ≡ b → (g : Graph) → g .kind ≡ kind → cond b (goes tt) (stops Disagreement) ≡ subgraphHeader g o
-  header-does {told} b is e g k =
-      ap (λ (x : Bool). cond {A = Step (Unit {0})} x (goes tt) (stops Disagreement)) (sym e ∙ ap (sameKind told) (sym k))
-      ∙ ap (subgraphHeader g) (sym (ap kindSays is) ∙ says)
+  module _ {kind : Kind} (is : r ≡ HeaderKind.Is kind) {b : Bool} (tests : b ≡ sameKind kind (g .kind)) where
+    header-does : (t : Bool) → b ≡ t → subgraphHeader g o ≡ cond t (goes tt) (stops Disagreement)
+    header-does t e =
+        ap (subgraphHeader g) (sym says ∙ ap kindSays is)
+        ∙ ap (λ (x : Bool). cond {A = Step (Unit {0})} x (goes tt) (stops Disagreement)) (sym tests ∙ e)
+
+    pub header-agrees : not b ≡ false → subgraphHeader g o ≡ goes tt
+    header-agrees q = header-does true (not-false b q)
+
+    pub header-differs : not b ≡ true → subgraphHeader g o ≡ stops Disagreement
+    header-differs q = header-does false (not-true b q)
 
 -- The size line.
 module _ (g : Graph) {o : Option (ℕ × ℕ × ℕ)} {r : Triple} (says : tripleSays r ≡ o) where
@@ -51,15 +55,48 @@ module _ (g : Graph) {o : Option (ℕ × ℕ × ℕ)} {r : Triple} (says : tripl
 
   module _ {a b k : ℕ} (is : r ≡ Triple.Is a b k) where
     pub size-does : (t u : Bool) → sizesInRange (g .kind) a b k ≡ t → (eqb a (g .rows) && eqb b (g .columns) && leb k (g .edges)) ≡ u
-        → cond t (cond u (goes (marked k 0 (replicate (g .edges) 0))) (stops Disagreement)) (stops Sizes) ≡ subgraphSizes g o
+        → cond t (cond u (goes (soFar k 0 (replicate (g .edges) 0))) (stops Disagreement)) (stops Sizes) ≡ subgraphSizes g o
     size-does t u e f =
-        ap₂ (λ (x y : Bool). cond {A = Step Marked} x (cond {A = Step Marked} y (goes (marked k 0 (replicate (g .edges) 0))) (stops Disagreement)) (stops Sizes)) (sym e) (sym f)
+        ap₂
+        (λ (x y : Bool). cond {A = Step Marked} x (cond {A = Step Marked} y (goes (soFar k 0 (replicate (g .edges) 0))) (stops Disagreement))
+        (stops Sizes)) (sym e) (sym f)
         ∙ ap (subgraphSizes g) (sym (ap tripleSays is) ∙ says)
 
     -- That the line agrees with the graph, by the answers of two tests made one after the other.
     pub size-agrees : {x y t : Bool} → x ≡ (eqb a (g .rows) && eqb b (g .columns)) → y ≡ (x && leb k (g .edges)) → y ≡ t
         → (eqb a (g .rows) && eqb b (g .columns) && leb k (g .edges)) ≡ t
     size-agrees p q e = sym (ap (λ (z : Bool). z && leb k (g .edges)) p) ∙ sym q ∙ e
+
+-- What the size line does is the same whatever edges the graph has, and reading does not look at the weights.
+module _ (s : Shape) (row column : List ℕ) (weight : List ℤ) where
+  header-same : (o : Option Kind) → subgraphHeader (graphOf s row column []) o ≡ subgraphHeader (graphOf s row column weight) o
+  header-same none = refl
+  header-same (some k) = refl
+
+  size-same : (o : Option (ℕ × ℕ × ℕ)) → subgraphSizes (noEdges s) o ≡ subgraphSizes (graphOf s row column weight) o
+  size-same none = refl
+  size-same (some p) = refl
+
+  edge-same : (b : Marked) (o : Option (ℕ × ℕ)) → subgraphEdge (graphOf s row column []) b o ≡ subgraphEdge (graphOf s row column weight) b o
+  edge-same b none = refl
+  edge-same b (some p) = refl
+
+pub size-says :
+    (s : Shape) (row column l : List ℕ) {r : ChosenLine} →
+    chosenSays (s .edges) r ≡ subgraphSizes (noEdges s) (threeWords natural natural natural (words l)) → (o : ChosenLine) → r ≡ o
+    → subgraphLayout (graphOf s row column []) .sizeLine tt l ≡ chosenSays (s .edges) o
+size-says s row column l says o is = sym (size-same s row column [] (threeWords natural natural natural (words l))) ∙ sym says ∙ ap (chosenSays (s .edges)) is
+
+pub layout-same : (s : Shape) (row column : List ℕ) (weight : List ℤ) → subgraphLayout (graphOf s row column []) ≡ subgraphLayout (graphOf s row column weight)
+layout-same s row column weight = λ i. record {
+  headerLine = λ l. header-same s row column weight (subgraphKind l) i;
+  sizeLine = λ h l.
+      (sym (size-same s row column [] (threeWords natural natural natural (words l)))
+      ∙ size-same s row column weight (threeWords natural natural natural (words l))) i;
+  laterLine = λ b l. edge-same s row column weight b (twoWords natural natural (words l)) i;
+  more = λ b. ltb (b .came) (b .count);
+  result = λ b. b .marks;
+}
 
 -- A later line.
 module _ (g : Graph) (b : Marked) {o : Option (ℕ × ℕ)} {r : Pair} (says : pairSays r ≡ o) where
@@ -75,16 +112,21 @@ module _ (g : Graph) (b : Marked) {o : Option (ℕ × ℕ)} {r : Pair} (says : p
     pub ends-wrong : endsInRange (g .kind) (g .rows) (g .columns) x y ≡ false → stops Ends ≡ subgraphEdge g b o
     ends-wrong e = edge-does false e
 
-    -- The search for the edge has answered l.
-    module _ (e : endsInRange (g .kind) (g .rows) (g .columns) x y ≡ true) {l : Lowest} (found : lowestSays l ≡ edgeWith g x y) where
-      pub edge-absent : l ≡ Lowest.Nothing → stops Disagreement ≡ subgraphEdge g b o
-      edge-absent at = ap (subgraphMark b) (sym (ap lowestSays at) ∙ found) ∙ edge-does true e
+    -- The search for the edge, over as many rows as the graph has edges, has answered l.
+    module _ (e : endsInRange (g .kind) (g .rows) (g .columns) x y ≡ true) {l : Lowest} {m : ℕ} (all : m ≡ g .edges)
+        (sought : lowestSays l ≡ lowest m (λ d. not (joins g x y d))) where
+      found : (o : Lowest) → l ≡ o → lowestSays o ≡ edgeWith g x y
+      found o at = ap lowestSays (sym at) ∙ sought ∙ ap (λ k. lowest k (λ d. not (joins g x y d))) all
 
-      pub edge-marks : {k : ℕ} (u : Bool) → l ≡ Lowest.At k → eqb (getD (b .marks) k 0) 0 ≡ u → cond u (goes (withMark b k)) (stops SameEnds) ≡ subgraphEdge g b o
+      pub edge-absent : l ≡ Lowest.Nothing → stops Disagreement ≡ subgraphEdge g b o
+      edge-absent at = ap (subgraphMark b) (found Lowest.Nothing at) ∙ edge-does true e
+
+      pub edge-marks : {k : ℕ} (u : Bool) → l ≡ Lowest.At k → eqb (getD (b .marks) k 0) 0 ≡ u →
+          cond u (goes (withMark b k)) (stops SameEnds) ≡ subgraphEdge g b o
       edge-marks {k} u at f =
           ap (λ (t : Bool). cond {A = Step Marked} t (goes (withMark b k)) (stops SameEnds)) (sym f)
-          ∙ ap (subgraphMark b) (sym (ap lowestSays at) ∙ found) ∙ edge-does true e
+          ∙ ap (subgraphMark b) (found (Lowest.At k) at) ∙ edge-does true e
 
       -- An edge that the search finds is one of the graph's.
       pub edge-among : {k : ℕ} → l ≡ Lowest.At k → k < g .edges
-      edge-among {k} at = lowest-some (g .edges) (λ d. not (joins g x y d)) k (sym found ∙ ap lowestSays at) .among
+      edge-among {k} at = lowest-some (g .edges) (λ d. not (joins g x y d)) k (sym (found (Lowest.At k) at)) .among

@@ -1,34 +1,38 @@
--- What the subgraph reader yields, by the first test that refuses before the text is read.
-use Prim.Native.Nat.{ℕ, _<_, _≤_}
+-- What the subgraph reader answers and leaves, from its tests and from what reading the lines yields.
+use Prim.Native.Nat.{ℕ}
 use mathlib.Core.Path.{_≡_, sym, ap, _∙_, subst}
-use mathlib.Core.Bool.{_&&_}
-use mathlib.Core.List.{List, [], _∷_, _++_}
+use mathlib.Core.Bool.{true, _&&_}
+use mathlib.Core.List.{List, [], _∷_}
 use lib.Dec.{eqb}
+use lib.IntN.{ℤ}
 use lib.ListN.{length, replicate}
-use borrow.Author.Tests.{eqb-true, le-leb, lt-leb}
+use borrow.Author.Tests.{eqb-true}
 use Rattle.graph.specs.declared.Fault.the-variants.{TextLength, LentLength}
 use Rattle.graph.specs.declared.Refusal.{Refusal}
 use Rattle.graph.specs.Refusal.{Outcome, yields, refuses, Test, once, passing, reported, output}
-use Rattle.graph.specs.Graph.{Graph}
+use Rattle.graph.specs.declared.Shape.{Shape}
+use Rattle.graph.specs.Graph.{Graph, graphOf}
+use Rattle.graph.specs.Passed.{Passed}
 use Rattle.graph.specs.Tests.{graphLengths, graphTests}
-use Rattle.graph.proofs.Passing.{passing-append, once-passes, once-refuses}
+use Rattle.graph.proofs.Passing.{passing-append}
 use Rattle.checks.specs.declared.Check.{Check}
 use Rattle.checks.specs.declared.Check.the-variants as Check
 use Rattle.checks.specs.Checks.{checkSays}
 use Rattle.checks.proofs.Refusals.{checked-passed, checked-refused}
-use Rattle.inputs.proofs.Lengths.{LengthsHold, lent-hold}
+use Rattle.lent.proofs.Lengths.{lent-passed}
 use Rattle.layout.specs.Text.{textFits}
 use Rattle.layout.specs.Lines.{readText}
 use Rattle.layout.specs.SubgraphText.{subgraphLayout, readSubgraph}
 use Rattle.layout.specs.declared.SubgraphAnswer.{SubgraphAnswer}
 use Rattle.layout.specs.declared.SubgraphAnswer.the-variants as SubgraphAnswer
 use Rattle.layout.specs.Answers.{subgraphSays}
-use Rattle.outputs.specs.Holding.{Holds}
-use Rattle.outputs.proofs.Filling.{left-yields, left-refused}
-use Rattle.subgraph_reader.specs.Turn.{readerTests}
+use Rattle.lent.specs.Holding.{Holds}
+use Rattle.lent.proofs.Filling.{left-yields, left-refused}
+use Rattle.subgraph_reader.specs.OnLine.{readerTests, SubgraphReading}
+use Rattle.subgraph_reader.proofs.OnLine.{layout-same}
 
 module _ (g : Graph) (n : ℕ) (s : List ℕ) where
-  -- The tests on lengths and numbers, and what follows them.
+  -- The tests on lengths and numbers, and the test that follows them.
   abbrev numbers : List Test
   numbers = once LentLength (graphLengths g && eqb n (g .edges)) ∷ graphTests g
 
@@ -43,17 +47,9 @@ module _ (g : Graph) (n : ℕ) (s : List ℕ) where
     pub numbers-refused : {f : Refusal} → r ≡ Check.Refused f → refuses (f .fault) (f .place) ≡ passing (readerTests g n s) noted
     numbers-refused is = sym (passing-append numbers fromText noted ∙ checked-refused numbers (passing fromText noted) answers is)
 
-    module _ (is : r ≡ Check.Passed) where
-      text-left : passing fromText noted ≡ passing (readerTests g n s) noted
-      text-left = sym (passing-append numbers fromText noted ∙ checked-passed numbers (passing fromText noted) answers is)
+    pub text-left : r ≡ Check.Passed → passing fromText noted ≡ passing (readerTests g n s) noted
+    text-left is = sym (passing-append numbers fromText noted ∙ checked-passed numbers (passing fromText noted) answers is)
 
-      pub text-refused : 32768 < length s → refuses TextLength 0 ≡ passing (readerTests g n s) noted
-      text-refused l = sym (once-refuses TextLength (textFits s) [] noted (lt-leb (length s) 32768 l)) ∙ text-left
-
-      pub none-refused : length s ≤ 32768 → yields tt ≡ passing (readerTests g n s) noted
-      none-refused l = sym (once-passes TextLength (textFits s) [] noted (le-leb (length s) 32768 l)) ∙ text-left
-
-  -- All tests have answered r.
   abbrev whole : Outcome (List ℕ)
   whole = readText (subgraphLayout g) s
 
@@ -61,37 +57,55 @@ module _ (g : Graph) (n : ℕ) (s : List ℕ) where
   unfolding readSubgraph
   reads = sym (passing-append numbers fromText whole)
 
-  -- An output that was cleared is as long as before.
-  pub counted : (r : Check) {m : ℕ} → m ≡ n → checkSays r ≡ passing (readerTests g m s) noted → checkSays r ≡ passing (readerTests g n s) noted
-  counted r same answers = answers ∙ ap (λ k. passing (readerTests g k s) noted) same
+  -- What the call answers and leaves; a refusal leaves the output all 0.
+  abbrev pub SubgraphAnswered : SubgraphAnswer → List ℕ → Type 0
+  SubgraphAnswered a out = (subgraphSays a ≡ reported (λ x. tt {0}) (readSubgraph g n s)) × (out ≡ output n 0 (λ x. x) (readSubgraph g n s))
 
-  module _ {r : Check} (answers : checkSays r ≡ passing (readerTests g n s) noted) where
-    pub refused : {f : Refusal} → r ≡ Check.Refused f → readSubgraph g n s ≡ refuses (f .fault) (f .place)
-    refused is = reads ∙ checked-refused (readerTests g n s) whole answers is
+  refused-leaves : (x : Refusal) {out : List ℕ} → refuses (x .fault) (x .place) ≡ reported (λ y. tt {0}) (readSubgraph g n s) → out ≡ replicate n 0 →
+      SubgraphAnswered (SubgraphAnswer.Refused x) out
+  refused-leaves x e z = (e, z ∙ left-refused n 0 (λ y. y) (λ y. tt {0}) (readSubgraph g n s) (x .fault) (x .place) e)
+
+  -- All tests have answered r, where the output that was cleared is as long as before.
+  module _ {m : ℕ} (same : m ≡ n) (r : Check) (says : checkSays r ≡ passing (readerTests g m s) noted) where
+    answers : checkSays r ≡ passing (readerTests g n s) noted
+    answers = says ∙ ap (λ k. passing (readerTests g k s) noted) same
+
+    pub whole-lent : {x : Refusal} {out : List ℕ} → r ≡ Check.Refused x → out ≡ replicate n 0 → SubgraphAnswered (SubgraphAnswer.Refused x) out
+    whole-lent {x} is z = refused-leaves x (ap (reported (λ y. tt {0})) (sym (reads ∙ checked-refused (readerTests g n s) whole answers is))) z
 
     module _ (is : r ≡ Check.Passed) where
-      pub text-read : readSubgraph g n s ≡ whole
+      text-read : readSubgraph g n s ≡ whole
       text-read = reads ∙ checked-passed (readerTests g n s) whole answers is
 
-      -- The lent lengths are right.
-      pub lengths : LengthsHold g
-      lengths = lent-hold g (eqb n (g .edges)) (graphTests g ++ fromText) noted tt (sym answers ∙ ap checkSays is) .graph
+      lent : Passed g × (eqb n (g .edges) ≡ true)
+      lent = lent-passed g (eqb n (g .edges)) (passing fromText noted) tt (sym (passing-append numbers fromText noted) ∙ sym answers ∙ ap checkSays is)
+
+      pub lengths : (length (g .row) ≡ g .edges) × (length (g .column) ≡ g .edges)
+      lengths = (lent .0 .sound .rowLong, lent .0 .sound .columnLong)
 
       pub size : n ≡ g .edges
-      size = eqb-true n (g .edges) (lent-hold g (eqb n (g .edges)) (graphTests g ++ fromText) noted tt (sym answers ∙ ap checkSays is) .rest)
+      size = eqb-true n (g .edges) (lent .1)
 
       -- The text's lines have answered a.
-      module _ {a : SubgraphAnswer} {out : List ℕ} (says : subgraphSays a ≡ reported (λ x. tt) whole) where
-        pub lines-read : {m : ℕ} → a ≡ SubgraphAnswer.Read → m ≡ n → Holds m 0 (λ x. x) whole out
-            → (noted ≡ reported (λ x. tt) (readSubgraph g n s)) × (out ≡ output n 0 (λ x. x) (readSubgraph g n s))
-        lines-read at same H =
-            let e : noted ≡ reported (λ x. tt) whole = sym (ap subgraphSays at) ∙ says in
-            (e ∙ ap (reported (λ x. tt)) (sym text-read), left-yields (λ x. tt) (subst (λ k. Holds k 0 (λ x. x) whole out) same H) e ∙ ap (output n 0 (λ x. x)) (sym text-read))
+      module _ {a : SubgraphAnswer} {out : List ℕ} (R : SubgraphReading g s a out) where
+        told : (b : SubgraphAnswer) → a ≡ b → subgraphSays b ≡ reported (λ x. tt {0}) (readSubgraph g n s)
+        told b at = ap subgraphSays (sym at) ∙ R .says ∙ ap (reported (λ x. tt {0})) (sym text-read)
 
-        pub lines-refused : {f : Refusal} {m : ℕ} → a ≡ SubgraphAnswer.Refused f → m ≡ n → out ≡ replicate m 0
-            → (_≡_ {A = Outcome (Unit {0})} (refuses (f .fault) (f .place)) (reported (λ x. tt) (readSubgraph g n s))) × (out ≡ output n 0 (λ x. x) (readSubgraph g n s))
-        lines-refused {f} at same cleared =
-            let e : _≡_ {A = Outcome (Unit {0})} (refuses (f .fault) (f .place)) (reported (λ x. tt) whole) = sym (ap subgraphSays at) ∙ says in (
-              e ∙ ap (reported (λ x. tt)) (sym text-read),
-              cleared ∙ ap (λ k. replicate k 0) same ∙ left-refused n 0 (λ x. x) (λ x. tt) whole (f .fault) (f .place) e ∙ ap (output n 0 (λ x. x)) (sym text-read),
-            )
+        pub whole-read : a ≡ SubgraphAnswer.Read → SubgraphAnswered SubgraphAnswer.Read out
+        whole-read at =
+            let e = told SubgraphAnswer.Read at in
+            let h = subst (λ w. Holds (g .edges) 0 (λ x. x) w out) (sym text-read) (R .holds) in
+            (e, left-yields (λ x. tt {0}) (subst (λ k. Holds k 0 (λ x. x) (readSubgraph g n s) out) (sym size) h) e)
+
+        pub whole-refused : {x : Refusal} {new : List ℕ} → a ≡ SubgraphAnswer.Refused x → new ≡ replicate n 0 → SubgraphAnswered (SubgraphAnswer.Refused x) new
+        whole-refused {x} at z = refused-leaves x (told (SubgraphAnswer.Refused x) at) z
+
+-- Reading does not look at the weights.
+pub any-weights : {t : Shape} {row column s out : List ℕ} {a : SubgraphAnswer} → SubgraphReading (graphOf t row column []) s a out →
+    (weight : List ℤ) → SubgraphReading (graphOf t row column weight) s a out
+any-weights {t} {row} {column} {s} {out} R weight =
+    let e = layout-same t row column weight in
+    record {
+      says = R .says ∙ ap (λ L. reported (λ x. tt {0}) (readText L s)) e;
+      holds = subst (λ L. Holds (t .edges) 0 (λ x. x) (readText L s) out) e (R .holds);
+    }

@@ -2,81 +2,55 @@
 use checks::Check;
 use checks::Lowest;
 use graph::Fault;
-use graph::Kind;
-use graph::Refusal;
+use graph::SUBGRAPH_BYTES;
+use graph::Shape;
 use layout::TextAnswer;
 ghost use mathlib.Core.Path.{_≡_};
 ghost use lib.ListN.{length};
 ghost use Rattle.graph.specs.Refusal.{yields, passing, reported, output};
-ghost use Rattle.checks.specs.Checks.{checkSays, graphOf};
+ghost use Rattle.graph.specs.Graph.{graphOf};
+ghost use Rattle.checks.specs.Checks.{checkSays};
 ghost use Rattle.layout.specs.Answers.{textSays};
 ghost use Rattle.layout.specs.SubgraphText.{writeSubgraph};
 ghost use Rattle.subgraph_writer.specs.Tests.{writerTests};
 
 // The tests, in their order: lengths, sizes, ends, weights, equal ends, marks. `out` is the length of the output.
 fn check_marks(
-    kind: Kind,
-    rows: u32,
-    columns: u32,
-    edges: u32,
+    s: Shape,
     row: &[u32],
     column: &[u32],
     weight: &[i32],
     chosen: &[u8],
     out: usize,
 ) -> Check
-    ensures { λ r. ⌜ checkSays r ≡ passing (writerTests (graphOf kind rows columns edges (now (row .entry)) (now (column .entry)) (now (weight .entry))) (now (chosen .entry)) out) (yields tt) ⌝ }
+    ensures { λ r. ⌜ checkSays r ≡ passing (writerTests (graphOf s (now (row .entry)) (now (column .entry)) (now (weight .entry))) (now (chosen .entry)) out) (yields tt) ⌝ }
 {
-    let others = inputs::both(chosen.len() == edges as usize, out == 16384);
-    if let Check::Refused(r) = inputs::check_lent(
-        kind,
-        rows,
-        columns,
-        edges,
-        row,
-        column,
-        weight,
-        others,
-    ) {
+    let others = checks::both(chosen.len() == s.edges as usize, out == SUBGRAPH_BYTES);
+    if let Check::Refused(r) = lent::check_lent(s, row, column, weight, others) {
         return Check::Refused(r);
     }
     if let Lowest::At(e) = checks::lowest_mark(chosen) {
-        let fault = Fault::Mark;
-        let place = e as u64 + 1;
-        return Check::Refused(Refusal { fault, place });
+        return checks::refused_item(Fault::Mark, e);
     }
     Check::Passed
 }
 
 // Writes the text of the chosen edges to `out`, 0 after its end, and answers its length. After a refusal all of `out` is 0.
 pub fn write_subgraph(
-    kind: Kind,
-    rows: u32,
-    columns: u32,
-    edges: u32,
+    s: Shape,
     row: &[u32],
     column: &[u32],
     weight: &[i32],
     chosen: &[u8],
     out: &mut [u8],
 ) -> TextAnswer
-    ensures answer { λ r. ⌜ textSays r ≡ reported length (writeSubgraph (graphOf kind rows columns edges (now (row .entry)) (now (column .entry)) (now (weight .entry))) (now (chosen .entry)) (length (now (out .entry)))) ⌝ }
-    ensures text { λ _. ⌜ now (out .exit) ≡ output (length (now (out .entry))) 0 (λ t. t) (writeSubgraph (graphOf kind rows columns edges (now (row .entry)) (now (column .entry)) (now (weight .entry))) (now (chosen .entry)) (length (now (out .entry)))) ⌝ }
+    ensures answer { λ r. ⌜ textSays r ≡ reported length (writeSubgraph (graphOf s (now (row .entry)) (now (column .entry)) (now (weight .entry))) (now (chosen .entry)) (length (now (out .entry)))) ⌝ }
+    ensures text { λ _. ⌜ now (out .exit) ≡ output (length (now (out .entry))) 0 (λ t. t) (writeSubgraph (graphOf s (now (row .entry)) (now (column .entry)) (now (weight .entry))) (now (chosen .entry)) (length (now (out .entry)))) ⌝ }
 {
-    if let Check::Refused(r) = check_marks(
-        kind,
-        rows,
-        columns,
-        edges,
-        row,
-        column,
-        weight,
-        chosen,
-        out.len(),
-    ) {
-        outputs::clear_bytes(out);
+    if let Check::Refused(r) = check_marks(s, row, column, weight, chosen, out.len()) {
+        lent::clear_bytes(out);
         return TextAnswer::Refused(r);
     }
-    let length = writer::put_subgraph(out, kind, rows, columns, row, column, chosen);
+    let length = writer::put_subgraph(out, s, row, column, chosen);
     TextAnswer::Written(length)
 }

@@ -1,3 +1,5 @@
 pub mod Machine
 pub mod Totals
 pub mod Products
+pub mod Steps
+pub mod Covers

@@ -27,7 +27,8 @@ within-scaled : (k : ℕ) (x : ℤ) → k ≤ 2 ^ 16 → Within (2 ^ 31) x → W
 within-scaled k x l h = le-trans (within-times k x h) (mul-le-mul-right (2 ^ 31) l)
 
 -- r is x, which is v, taken k times, and k is y.
-pub scaled : (r x : ℤ) (k : ℕ) {y v : ℤ} → Fits64 r → Fits64 x → k ≤ 2 ^ 16 → pos k ≡ y → (x ≡ v) × Within (2 ^ 31) x → r ≡ pos k *ℤ held x → (held r ≡ y *ℤ v) × Within (2 ^ 47) (held r)
+pub scaled : (r x : ℤ) (k : ℕ) {y v : ℤ} → Fits64 r → Fits64 x → k ≤ 2 ^ 16 → pos k ≡ y → (x ≡ v) × Within (2 ^ 31) x → r ≡ pos k *ℤ held x →
+    (held r ≡ y *ℤ v) × Within (2 ^ 47) (held r)
 scaled r x k hr hx l c p e =
     let s : r ≡ pos k *ℤ x = e ∙ ap (λ (z : ℤ). pos k *ℤ z) (held-is x hx) in (
       held-is r hr ∙ s ∙ ap₂ _*ℤ_ c (p .0),
@@ -35,19 +36,22 @@ scaled r x k hr hx l c p e =
     )
 
 -- r is x, which is v, by its mark m.
-pub taken : (r x : ℤ) (m : ℕ) {v : ℤ} {n : ℕ} → Fits64 r → Fits64 x → (x ≡ v) × Within n x → n ≤ 2 ^ 48 → (r ≡ pos m *ℤ held x) × Within (up (held x) + dn (held x)) r → (held r ≡ pos m *ℤ v) × Within (2 ^ 48) (held r)
+pub taken : (r x : ℤ) (m : ℕ) {v : ℤ} {n : ℕ} → Fits64 r → Fits64 x → (x ≡ v) × Within n x → n ≤ 2 ^ 48 →
+    (r ≡ pos m *ℤ held x) × Within (up (held x) + dn (held x)) r → (held r ≡ pos m *ℤ v) × Within (2 ^ 48) (held r)
 taken r x m hr hx p l q =
     let e = held-is x hx in
     let w : Within (2 ^ 48) r = omega (arith, q .1, p .1, ap up e, ap dn e) in
     held-both r hr (q .0 ∙ ap (λ (z : ℤ). pos m *ℤ z) (e ∙ p .0)) w
 
 -- r is z times what l leaves of k, by the two products a and b.
-pub rested : (r a b z : ℤ) (k l : ℕ) → Fits64 r → (held a ≡ pos k *ℤ z) × Within (2 ^ 47) (held a) → (held b ≡ pos l *ℤ z) × Within (2 ^ 47) (held b) → r ≡ held a -ℤ held b → (held r ≡ z *ℤ (pos k -ℤ pos l)) × Within (2 ^ 48) (held r)
+pub rested : (r a b z : ℤ) (k l : ℕ) → Fits64 r → (held a ≡ pos k *ℤ z) × Within (2 ^ 47) (held a) →
+    (held b ≡ pos l *ℤ z) × Within (2 ^ 47) (held b) → r ≡ held a -ℤ held b → (held r ≡ z *ℤ (pos k -ℤ pos l)) × Within (2 ^ 48) (held r)
 rested r a b z k l hr p q e =
     held-both r hr (e ∙ ap₂ _-ℤ_ (p .0) (q .0) ∙ times-rest z k l)
     (subst (λ (y : ℤ). Within (2 ^ 48) y) (sym e) (within-diff (held a) (held b) (p .1) (q .1)))
 
 -- The same of a call's result r, whose price x is z, limit k is a, and use l is b.
-pub rest-held : (r x : ℤ) (l : ℕ) {z a : ℤ} {b k : ℕ} → Fits64 r → Fits64 x → x ≡ z → pos k ≡ a → l ≡ b → (r ≡ held x *ℤ (pos k -ℤ pos l)) × Within (2 ^ 48) r → (held r ≡ z *ℤ (a -ℤ pos b)) × Within (2 ^ 48) (held r)
+pub rest-held : (r x : ℤ) (l : ℕ) {z a : ℤ} {b k : ℕ} → Fits64 r → Fits64 x → x ≡ z → pos k ≡ a → l ≡ b →
+    (r ≡ held x *ℤ (pos k -ℤ pos l)) × Within (2 ^ 48) r → (held r ≡ z *ℤ (a -ℤ pos b)) × Within (2 ^ 48) (held r)
 rest-held r x l hr hx e f g p =
     held-both r hr (p .0 ∙ ap₂ _*ℤ_ (held-is x hx ∙ e) (ap₂ (λ (c : ℤ) (d : ℕ). c -ℤ pos d) f g)) (p .1)

@@ -1,11 +1,11 @@
 -- One law for every loop that adds up at most 1,024 integers, each within 2 ^ 48.
 use Prim.Native.Nat.{ℕ, _+_, _^_, _≤_, _<_}
-use mathlib.Core.Path.{_≡_, _∙_}
+use mathlib.Core.Path.{_≡_, ap, _∙_}
 use native.Mathlib.Omega.{arith}
 use lib.IntN.{ℤ, _+ℤ_}
 use Rattle.integers.specs.Integer.{Within}
 use Rattle.integers.specs.Sum.{sumℤ}
-use Rattle.sets.proofs.Loops.{Summedℤ, summedℤ-more, summedℤ-all}
+use Rattle.integers.proofs.Loops.{Summedℤ, summedℤ-more, summedℤ-all}
 use Rattle.sums.proofs.Machine.{Fits64, held, held-is, held-within}
 
 -- The total is the sum of the first i of n terms f.
@@ -22,6 +22,6 @@ module _ {n : ℕ} {f : ℕ → ℤ} {i : ℕ} {total : ℤ} (S : Adding n f i t
   added x r l hx hr p e =
       summedℤ-more S l (held-is x hx ∙ p .0, held-within x hx (p .1) (omega arith)) (held-is r hr ∙ e)
 
-  -- All are added.
-  pub added-all : n ≤ i → n ≤ 1024 → (total ≡ sumℤ n f) × Within (2 ^ 58) total
-  added-all l few = let w = summedℤ-all S l in (w .0, omega (arith, w .1))
+  -- All are added, and they are m.
+  pub added-all : {m : ℕ} → n ≤ i → n ≤ 1024 → n ≡ m → (total ≡ sumℤ m f) × Within (2 ^ 58) total
+  added-all l few e = let w = summedℤ-all S l in (w .0 ∙ ap (λ k. sumℤ k f) e, omega (arith, w .1))

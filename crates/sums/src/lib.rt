@@ -1,40 +1,48 @@
-// The sums of the measuring call: the subgraph's weight, the parts of the prices' total, and the slacks of vertices, edges and odd sets.
+// The sums of the measuring call: the subgraph's weight, the parts of the prices' total, the cover of every edge, and the four slacks.
 // Weights, bounds and prices are 32 bits wide, and their sums 64: a term is within 2 ^ 48, and a sum of at most 1,024 terms within 2 ^ 58.
-// The words `insides`, 2 a set, mark vertices, and `markings`, 16 a set, mark edges.
-// A contract leaves out of the graph and the price sheet, as 0 or [], what its definition does not look at.
-use graph::Kind;
-ghost use Prim.Native.Nat.{ℕ, _-_, _^_, _≤_, _<_};
+// The words `insides`, 2 a set, mark vertices, and `markings`, 16 a set, mark edges. Odd sets count by k.
+use checks::Ends;
+use checks::Lowest;
+use graph::MOST_EDGES;
+use graph::MOST_SETS;
+use graph::MOST_VERTICES;
+use graph::Shape;
+ghost use Prim.Native.Nat.{ℕ, _-_, _*_, _/_, _+_, _^_, _≤_, _<_};
 ghost use mathlib.Core.Path.{_≡_};
 ghost use mathlib.Core.List.{[]};
-ghost use lib.IntN.{pos, _-ℤ_, _*ℤ_};
+ghost use lib.IntN.{pos, _+ℤ_, _-ℤ_, _*ℤ_};
 ghost use lib.ListN.{length, getD};
-ghost use lib.Signed.{_≤ℤ_};
+ghost use lib.Signed.{_≤ℤ_, leZ};
 ghost use Rattle.integers.specs.Integer.{Within};
 ghost use Rattle.integers.specs.Sum.{sumℤ};
-ghost use Rattle.graph.specs.Graph.{verticesOf, boundAt};
-ghost use Rattle.graph.specs.Subgraph.{markAt, weightOf};
-ghost use Rattle.dual.specs.Sets.{capacity};
-ghost use Rattle.dual.specs.Gap.{chosenCovered, setSlack};
-ghost use Rattle.checks.specs.Checks.{graphOf};
-ghost use Rattle.sets.specs.Lent.{pricesOf, marksOf, EdgesFit, BoundsFit, WordsFit};
-ghost use Rattle.sums.specs.Lent.{weighted, MarksFit, SetsFit};
+ghost use Rattle.graph.specs.Limits.{mostVertices, mostEdges, greatestBound, mostSets, vertexWords, edgeWords};
+ghost use Rattle.graph.specs.Graph.{graphOf, verticesIn, boundAt};
+ghost use Rattle.graph.specs.Refusal.{lowest};
+ghost use Rattle.graph.specs.Subgraph.{markAt};
+ghost use Rattle.graph.specs.Passed.{Sound, Bounded, MarksHold};
+ghost use Rattle.dual.specs.Prices.{pricesOf, one};
+ghost use Rattle.dual.specs.Gap.{coverOf};
+ghost use Rattle.checks.specs.Checks.{lowestSays};
+ghost use Rattle.sets.specs.Words.{coversBy};
+ghost use Rattle.sums.specs.Lent.{PricesLent};
 
 // The weight of edge e where it is chosen, else 0.
 fn chosen_weight(weight: &[i32], chosen: &[u8], e: usize) -> i64
-    requires { ⌜ MarksFit (length (now weight)) (now chosen) × (e < length (now weight)) ⌝ }
+    requires { ⌜ (e < length (now weight)) × (e < length (now chosen)) × (markAt (now chosen) e ≤ 1) ⌝ }
     ensures { λ r. ⌜ (r ≡ pos (markAt (now (chosen .entry)) e) *ℤ getD (now (weight .entry)) e (pos 0)) × Within (2 ^ 48) r ⌝ }
 {
     integers::if_chosen(chosen[e], integers::element(weight, e))
 }
 
 // The weight of a subgraph.
-pub fn weight_of(weight: &[i32], chosen: &[u8]) -> i64
-    requires { ⌜ MarksFit (length (now weight)) (now chosen) ⌝ }
-    ensures { λ r. ⌜ (r ≡ weightOf (weighted (now (weight .entry))) (now (chosen .entry))) × Within (2 ^ 58) r ⌝ }
+pub fn weight_of(edges: u32, weight: &[i32], chosen: &[u8]) -> i64
+    requires { ⌜ (edges ≤ mostEdges) × (length (now weight) ≡ edges) × MarksHold edges (now chosen) ⌝ }
+    ensures { λ r. ⌜ (r ≡ sumℤ edges (λ e. pos (markAt (now (chosen .entry)) e) *ℤ getD (now (weight .entry)) e (pos 0))) × Within (2 ^ 58) r ⌝ }
 {
+    let m = edges as usize;
     let mut total = 0;
     let mut e = 0;
-    while e < weight.len() {
+    while e < m {
         total = integers::add(total, chosen_weight(weight, chosen, e));
         e += 1;
     }
@@ -43,28 +51,29 @@ pub fn weight_of(weight: &[i32], chosen: &[u8]) -> i64
 
 // The bound of vertex v, as a natural number.
 fn bound_of(bound: &[i32], v: usize) -> u32
-    requires { ⌜ (v < length (now bound)) × ((pos 0 ≤ℤ boundAt (now bound) v) × (boundAt (now bound) v ≤ℤ pos 64)) ⌝ }
-    ensures { λ r. ⌜ (pos r ≡ boundAt (now (bound .entry)) v) × (r ≤ 64) ⌝ }
+    requires { ⌜ (v < length (now bound)) × ((pos 0 ≤ℤ boundAt (now bound) v) × (boundAt (now bound) v ≤ℤ pos greatestBound)) ⌝ }
+    ensures { λ r. ⌜ (pos r ≡ boundAt (now (bound .entry)) v) × (r ≤ greatestBound) ⌝ }
 {
     integers::natural(bound[v])
 }
 
 // The price of vertex v times its bound.
 fn bound_price(bound: &[i32], vertex_price: &[i32], v: usize) -> i64
-    requires { ⌜ BoundsFit (length (now «vertex_price»)) (now bound) × (v < length (now «vertex_price»)) ⌝ }
+    requires { ⌜ (v < length (now bound)) × ((pos 0 ≤ℤ boundAt (now bound) v) × (boundAt (now bound) v ≤ℤ pos greatestBound)) × (v < length (now «vertex_price»)) ⌝ }
     ensures { λ r. ⌜ (r ≡ boundAt (now (bound .entry)) v *ℤ getD (now («vertex_price» .entry)) v (pos 0)) × Within (2 ^ 48) r ⌝ }
 {
     integers::scale(bound_of(bound, v), integers::element(vertex_price, v))
 }
 
 // The part of the total that the vertices have: bound times price.
-pub fn vertex_total(bound: &[i32], vertex_price: &[i32]) -> i64
-    requires { ⌜ BoundsFit (length (now «vertex_price»)) (now bound) ⌝ }
-    ensures { λ r. ⌜ (r ≡ sumℤ (length (now («vertex_price» .entry))) (λ v. boundAt (now (bound .entry)) v *ℤ getD (now («vertex_price» .entry)) v (pos 0))) × Within (2 ^ 58) r ⌝ }
+pub fn vertex_total(s: Shape, bound: &[i32], vertex_price: &[i32]) -> i64
+    requires { ⌜ (verticesIn s ≤ mostVertices) × Bounded (verticesIn s) (now bound) × (length (now «vertex_price») ≡ verticesIn s) ⌝ }
+    ensures { λ r. ⌜ (r ≡ sumℤ (verticesIn s) (λ v. boundAt (now (bound .entry)) v *ℤ getD (now («vertex_price» .entry)) v (pos 0))) × Within (2 ^ 58) r ⌝ }
 {
+    let n = checks::vertex_count(s) as usize;
     let mut total = 0;
     let mut v = 0;
-    while v < vertex_price.len() {
+    while v < n {
         total = integers::add(total, bound_price(bound, vertex_price, v));
         v += 1;
     }
@@ -72,72 +81,46 @@ pub fn vertex_total(bound: &[i32], vertex_price: &[i32]) -> i64
 }
 
 // The part of the total that the edges have: all their prices.
-pub fn edge_total(edge_price: &[i32]) -> i64
-    requires { ⌜ length (now «edge_price») ≤ 1024 ⌝ }
-    ensures { λ r. ⌜ (r ≡ sumℤ (length (now («edge_price» .entry))) (λ e. getD (now («edge_price» .entry)) e (pos 0))) × Within (2 ^ 58) r ⌝ }
+pub fn edge_total(edges: u32, edge_price: &[i32]) -> i64
+    requires { ⌜ (edges ≤ mostEdges) × (length (now «edge_price») ≡ edges) ⌝ }
+    ensures { λ r. ⌜ (r ≡ sumℤ edges (λ e. getD (now («edge_price» .entry)) e (pos 0))) × Within (2 ^ 58) r ⌝ }
 {
+    let m = edges as usize;
     let mut total = 0;
     let mut e = 0;
-    while e < edge_price.len() {
+    while e < m {
         total = integers::add(total, integers::element(edge_price, e));
         e += 1;
     }
     total
 }
 
-// The price of odd set s times its capacity.
-fn capacity_price(
-    kind: Kind,
-    rows: u32,
-    columns: u32,
-    edges: u32,
-    bound: &[i32],
-    set_price: &[i32],
-    insides: &[u64],
-    markings: &[u64],
-    s: usize,
-) -> i64
-    requires { ⌜ BoundsFit (verticesOf kind rows columns) (now bound) ⌝ }
-    requires { ⌜ (edges ≤ 1024) × (s < length (now «set_price»)) × WordsFit s (now insides) (now markings) ⌝ }
-    ensures { λ r. ⌜ (r ≡ pos (capacity (graphOf kind rows columns edges [] [] []) (now (bound .entry)) (marksOf (now (insides .entry)) (now (markings .entry))) s) *ℤ getD (now («set_price» .entry)) s (pos 0)) × Within (2 ^ 48) r ⌝ }
+// The capacity of an odd set: half its load, rounded down.
+fn capacity(load: u32) -> u32
+    ensures { λ r. ⌜ r ≡ load / 2 ⌝ }
 {
-    let capacity = sets::capacity(kind, rows, columns, edges, bound, insides, markings, s);
-    integers::scale(capacity, integers::element(set_price, s))
+    load / 2
+}
+
+// The price of odd set k times its capacity.
+fn capacity_price(load: u32, set_price: &[i32], k: usize) -> i64
+    requires { ⌜ (load ≤ 2 ^ 16) × (k < length (now «set_price»)) ⌝ }
+    ensures { λ r. ⌜ (r ≡ pos (load / 2) *ℤ getD (now («set_price» .entry)) k (pos 0)) × Within (2 ^ 48) r ⌝ }
+{
+    integers::scale(capacity(load), integers::element(set_price, k))
 }
 
 // The part of the total that the odd sets have: capacity times price.
-pub fn set_total(
-    kind: Kind,
-    rows: u32,
-    columns: u32,
-    edges: u32,
-    bound: &[i32],
-    sets: u32,
-    set_price: &[i32],
-    insides: &[u64],
-    markings: &[u64],
-) -> i64
-    requires { ⌜ BoundsFit (verticesOf kind rows columns) (now bound) ⌝ }
-    requires { ⌜ (edges ≤ 1024) × SetsFit sets (now «set_price») (now insides) (now markings) ⌝ }
-    ensures { λ r. ⌜ (r ≡ sumℤ sets (λ s. pos (capacity (graphOf kind rows columns edges [] [] []) (now (bound .entry)) (marksOf (now (insides .entry)) (now (markings .entry))) s) *ℤ getD (now («set_price» .entry)) s (pos 0))) × Within (2 ^ 58) r ⌝ }
+pub fn set_total(sets: u32, load: [u32; MOST_SETS], set_price: &[i32]) -> i64
+    requires { ⌜ (sets ≤ mostSets) × (length (now «set_price») ≡ sets) × ((k : ℕ) → k < sets → getD load k 0 ≤ 2 ^ 16) ⌝ }
+    ensures { λ r. ⌜ (r ≡ sumℤ sets (λ k. pos (getD load k 0 / 2) *ℤ getD (now («set_price» .entry)) k (pos 0))) × Within (2 ^ 58) r ⌝ }
 {
     let count = sets as usize;
     let mut total = 0;
-    let mut s = 0;
-    while s < count {
-        let term = capacity_price(
-            kind,
-            rows,
-            columns,
-            edges,
-            bound,
-            set_price,
-            insides,
-            markings,
-            s,
-        );
-        total = integers::add(total, term);
-        s += 1;
+    let mut k = 0;
+    while k < count {
+        total = integers::add(total, capacity_price(load[k], set_price, k));
+        k += 1;
     }
     total
 }
@@ -151,115 +134,207 @@ fn price_of_rest(price: i64, limit: u32, used: u32) -> i64
 }
 
 // The price of vertex v times its residual bound (unused limit).
-fn residual_price(used: u32, bound: &[i32], vertex_price: &[i32], v: usize) -> i64
-    requires { ⌜ BoundsFit (length (now «vertex_price»)) (now bound) × (v < length (now «vertex_price»)) × (used ≤ 2 ^ 16) ⌝ }
-    ensures { λ r. ⌜ (r ≡ getD (now («vertex_price» .entry)) v (pos 0) *ℤ (boundAt (now (bound .entry)) v -ℤ pos used)) × Within (2 ^ 48) r ⌝ }
+fn residual_price(degree: u32, bound: &[i32], vertex_price: &[i32], v: usize) -> i64
+    requires { ⌜ (v < length (now bound)) × ((pos 0 ≤ℤ boundAt (now bound) v) × (boundAt (now bound) v ≤ℤ pos greatestBound)) × (v < length (now «vertex_price»)) ⌝ }
+    requires { ⌜ degree ≤ 2 ^ 16 ⌝ }
+    ensures { λ r. ⌜ (r ≡ getD (now («vertex_price» .entry)) v (pos 0) *ℤ (boundAt (now (bound .entry)) v -ℤ pos degree)) × Within (2 ^ 48) r ⌝ }
 {
-    price_of_rest(integers::element(vertex_price, v), bound_of(bound, v), used)
+    price_of_rest(
+        integers::element(vertex_price, v),
+        bound_of(bound, v),
+        degree,
+    )
 }
 
 // The slack of vertices, from their degrees.
-pub fn vertex_slack(degree: [u32; 128], bound: &[i32], vertex_price: &[i32]) -> i64
-    requires { ⌜ BoundsFit (length (now «vertex_price»)) (now bound) ⌝ }
-    requires { ⌜ ((v : ℕ) → v < length (now «vertex_price») → getD degree v 0 ≤ 2 ^ 16) ⌝ }
-    ensures { λ r. ⌜ (r ≡ sumℤ (length (now («vertex_price» .entry))) (λ v. getD (now («vertex_price» .entry)) v (pos 0) *ℤ (boundAt (now (bound .entry)) v -ℤ pos (getD degree v 0)))) × Within (2 ^ 58) r ⌝ }
+pub fn vertex_slack(
+    s: Shape,
+    degree: [u32; MOST_VERTICES],
+    bound: &[i32],
+    vertex_price: &[i32],
+) -> i64
+    requires { ⌜ (verticesIn s ≤ mostVertices) × Bounded (verticesIn s) (now bound) × (length (now «vertex_price») ≡ verticesIn s) ⌝ }
+    requires { ⌜ ((v : ℕ) → v < verticesIn s → getD degree v 0 ≤ 2 ^ 16) ⌝ }
+    ensures { λ r. ⌜ (r ≡ sumℤ (verticesIn s) (λ v. getD (now («vertex_price» .entry)) v (pos 0) *ℤ (boundAt (now (bound .entry)) v -ℤ pos (getD degree v 0)))) × Within (2 ^ 58) r ⌝ }
 {
+    let n = checks::vertex_count(s) as usize;
     let mut total = 0;
     let mut v = 0;
-    while v < vertex_price.len() {
+    while v < n {
         total = integers::add(total, residual_price(degree[v], bound, vertex_price, v));
         v += 1;
     }
     total
 }
 
+// The slack of odd sets, from their loads and from how many chosen edges each covers.
+pub fn set_slack(
+    sets: u32,
+    load: [u32; MOST_SETS],
+    covered: [u32; MOST_SETS],
+    set_price: &[i32],
+) -> i64
+    requires { ⌜ (sets ≤ mostSets) × (length (now «set_price») ≡ sets) ⌝ }
+    requires { ⌜ ((k : ℕ) → k < sets → (getD load k 0 ≤ 2 ^ 16) × (getD covered k 0 ≤ 2 ^ 16)) ⌝ }
+    ensures { λ r. ⌜ (r ≡ sumℤ sets (λ k. getD (now («set_price» .entry)) k (pos 0) *ℤ (pos (getD load k 0 / 2) -ℤ pos (getD covered k 0)))) × Within (2 ^ 58) r ⌝ }
+{
+    let count = sets as usize;
+    let mut total = 0;
+    let mut k = 0;
+    while k < count {
+        let limit = capacity(load[k]);
+        let rest = price_of_rest(integers::element(set_price, k), limit, covered[k]);
+        total = integers::add(total, rest);
+        k += 1;
+    }
+    total
+}
+
 // The price of edge e where it is not chosen, else 0.
 fn unchosen_price(chosen: &[u8], edge_price: &[i32], e: usize) -> i64
-    requires { ⌜ MarksFit (length (now «edge_price»)) (now chosen) × (e < length (now «edge_price»)) ⌝ }
+    requires { ⌜ (e < length (now «edge_price»)) × (e < length (now chosen)) × (markAt (now chosen) e ≤ 1) ⌝ }
     ensures { λ r. ⌜ (r ≡ pos (1 - markAt (now (chosen .entry)) e) *ℤ getD (now («edge_price» .entry)) e (pos 0)) × Within (2 ^ 48) r ⌝ }
 {
     integers::if_chosen(1 - chosen[e], integers::element(edge_price, e))
 }
 
 // The slack of edges: the prices of edges not chosen.
-pub fn edge_slack(chosen: &[u8], edge_price: &[i32]) -> i64
-    requires { ⌜ MarksFit (length (now «edge_price»)) (now chosen) ⌝ }
-    ensures { λ r. ⌜ (r ≡ sumℤ (length (now («edge_price» .entry))) (λ e. pos (1 - markAt (now (chosen .entry)) e) *ℤ getD (now («edge_price» .entry)) e (pos 0))) × Within (2 ^ 58) r ⌝ }
+pub fn edge_slack(edges: u32, chosen: &[u8], edge_price: &[i32]) -> i64
+    requires { ⌜ (edges ≤ mostEdges) × (length (now «edge_price») ≡ edges) × MarksHold edges (now chosen) ⌝ }
+    ensures { λ r. ⌜ (r ≡ sumℤ edges (λ e. pos (1 - markAt (now (chosen .entry)) e) *ℤ getD (now («edge_price» .entry)) e (pos 0))) × Within (2 ^ 58) r ⌝ }
 {
+    let m = edges as usize;
     let mut total = 0;
     let mut e = 0;
-    while e < edge_price.len() {
+    while e < m {
         total = integers::add(total, unchosen_price(chosen, edge_price, e));
         e += 1;
     }
     total
 }
 
-// The price of odd set s times what the chosen edges that it covers leave of its capacity.
-fn unused_price(
-    kind: Kind,
-    rows: u32,
-    columns: u32,
-    edges: u32,
-    row: &[u32],
-    column: &[u32],
-    bound: &[i32],
-    chosen: &[u8],
+// The price of odd set k where it covers edge e, else 0.
+fn price_covering(
+    e: usize,
+    ends: Ends,
     set_price: &[i32],
     insides: &[u64],
     markings: &[u64],
-    s: usize,
+    k: usize,
 ) -> i64
-    requires { ⌜ EdgesFit kind rows (now row) (now column) × (length (now row) ≡ edges) ⌝ }
-    requires { ⌜ BoundsFit (verticesOf kind rows columns) (now bound) × MarksFit edges (now chosen) ⌝ }
-    requires { ⌜ (s < length (now «set_price»)) × WordsFit s (now insides) (now markings) ⌝ }
-    ensures { λ r. ⌜ (r ≡ getD (now («set_price» .entry)) s (pos 0) *ℤ (pos (capacity (graphOf kind rows columns edges [] [] []) (now (bound .entry)) (marksOf (now (insides .entry)) (now (markings .entry))) s) -ℤ pos (chosenCovered (graphOf kind rows 0 edges (now (row .entry)) (now (column .entry)) []) (now (chosen .entry)) (marksOf (now (insides .entry)) (now (markings .entry))) s))) × Within (2 ^ 48) r ⌝ }
+    requires { ⌜ (e < mostEdges) × (ends .first < mostVertices) × (ends .second < mostVertices) × (k < length (now «set_price»)) ⌝ }
+    requires { ⌜ (vertexWords * k + vertexWords ≤ length (now insides)) × (edgeWords * k + edgeWords ≤ length (now markings)) ⌝ }
+    ensures { λ r. ⌜ (r ≡ pos (one (coversBy (now (insides .entry)) (now (markings .entry)) k e (ends .first) (ends .second))) *ℤ getD (now («set_price» .entry)) k (pos 0)) × Within (2 ^ 31) r ⌝ }
 {
-    let capacity = sets::capacity(kind, rows, columns, edges, bound, insides, markings, s);
-    let used = sets::chosen_covered(kind, rows, edges, row, column, chosen, insides, markings, s);
-    price_of_rest(integers::element(set_price, s), capacity, used)
+    let covering = sets::covers_edge(e, ends, insides, markings, k);
+    integers::if_chosen(sets::number(covering), integers::element(set_price, k))
 }
 
-// The slack of odd sets.
-pub fn set_slack(
-    kind: Kind,
-    rows: u32,
-    columns: u32,
-    edges: u32,
-    row: &[u32],
-    column: &[u32],
-    bound: &[i32],
-    chosen: &[u8],
+// The prices of all odd sets that cover edge e, added up.
+fn set_cover(
+    e: usize,
+    ends: Ends,
     sets: u32,
     set_price: &[i32],
     insides: &[u64],
     markings: &[u64],
 ) -> i64
-    requires { ⌜ EdgesFit kind rows (now row) (now column) × (length (now row) ≡ edges) ⌝ }
-    requires { ⌜ BoundsFit (verticesOf kind rows columns) (now bound) × MarksFit edges (now chosen) ⌝ }
-    requires { ⌜ SetsFit sets (now «set_price») (now insides) (now markings) ⌝ }
-    ensures { λ r. ⌜ (r ≡ setSlack (graphOf kind rows columns edges (now (row .entry)) (now (column .entry)) []) (now (bound .entry)) (now (chosen .entry)) (pricesOf [] [] sets (now («set_price» .entry)) (now (insides .entry)) (now (markings .entry)))) × Within (2 ^ 58) r ⌝ }
+    requires { ⌜ (e < mostEdges) × (ends .first < mostVertices) × (ends .second < mostVertices) ⌝ }
+    requires { ⌜ (sets ≤ mostSets) × (length (now «set_price») ≡ sets) × (length (now insides) ≡ vertexWords * sets) × (length (now markings) ≡ edgeWords * sets) ⌝ }
+    ensures { λ r. ⌜ (r ≡ sumℤ sets (λ k. pos (one (coversBy (now (insides .entry)) (now (markings .entry)) k e (ends .first) (ends .second))) *ℤ getD (now («set_price» .entry)) k (pos 0))) × Within (2 ^ 35) r ⌝ }
 {
     let count = sets as usize;
     let mut total = 0;
-    let mut s = 0;
-    while s < count {
-        let term = unused_price(
-            kind,
-            rows,
-            columns,
-            edges,
-            row,
-            column,
-            bound,
-            chosen,
-            set_price,
-            insides,
-            markings,
-            s,
-        );
-        total = integers::add(total, term);
-        s += 1;
+    let mut k = 0;
+    while k < count {
+        let price = price_covering(e, ends, set_price, insides, markings, k);
+        total = integers::add(total, price);
+        k += 1;
+    }
+    total
+}
+
+// The prices of an edge's ends and its own, added up.
+fn own_cover(e: usize, ends: Ends, vertex_price: &[i32], edge_price: &[i32]) -> i64
+    requires { ⌜ (ends .first < length (now «vertex_price»)) × (ends .second < length (now «vertex_price»)) × (e < length (now «edge_price»)) ⌝ }
+    ensures { λ r. ⌜ (r ≡ getD (now («vertex_price» .entry)) (ends .first) (pos 0) +ℤ getD (now («vertex_price» .entry)) (ends .second) (pos 0) +ℤ getD (now («edge_price» .entry)) e (pos 0)) × Within (2 ^ 33) r ⌝ }
+{
+    let first = integers::element(vertex_price, ends.first);
+    let second = integers::element(vertex_price, ends.second);
+    integers::add(
+        integers::add(first, second),
+        integers::element(edge_price, e),
+    )
+}
+
+// The cover of every edge: the prices of its ends, its own, and of all odd sets that cover it.
+pub fn cover_table(
+    s: Shape,
+    row: &[u32],
+    column: &[u32],
+    vertex_price: &[i32],
+    edge_price: &[i32],
+    sets: u32,
+    set_price: &[i32],
+    insides: &[u64],
+    markings: &[u64],
+) -> [i64; MOST_EDGES]
+    requires { ⌜ Sound s (now row) (now column) ⌝ }
+    requires { ⌜ PricesLent s (now «vertex_price») (now «edge_price») sets (now «set_price») ⌝ }
+    requires { ⌜ (length (now insides) ≡ vertexWords * sets) × (length (now markings) ≡ edgeWords * sets) ⌝ }
+    ensures { λ r. ⌜ ((e : ℕ) → e < s .edges → (getD r e (pos 0) ≡ coverOf (graphOf s (now (row .entry)) (now (column .entry)) []) (pricesOf (now («vertex_price» .entry)) (now («edge_price» .entry)) sets (now («set_price» .entry)) (now (insides .entry)) (now (markings .entry))) e) × Within (2 ^ 36) (getD r e (pos 0))) ⌝ }
+{
+    let mut table = [0i64; MOST_EDGES];
+    let mut e = 0;
+    while e < row.len() {
+        let ends = checks::ends_of(s, row[e], column[e]);
+        let own = own_cover(e, ends, vertex_price, edge_price);
+        let odd = set_cover(e, ends, sets, set_price, insides, markings);
+        table[e] = integers::add(own, odd);
+        e += 1;
+    }
+    table
+}
+
+// The lowest edge whose weight is over its cover.
+pub fn lowest_uncovered(edges: u32, weight: &[i32], cover: [i64; MOST_EDGES]) -> Lowest
+    requires { ⌜ (edges ≤ mostEdges) × (length (now weight) ≡ edges) ⌝ }
+    ensures { λ r. ⌜ lowestSays r ≡ lowest edges (λ e. leZ (getD (now (weight .entry)) e (pos 0)) (getD cover e (pos 0))) ⌝ }
+{
+    let m = edges as usize;
+    let mut e = 0;
+    while e < m {
+        if integers::at_most(integers::element(weight, e), cover[e]) {
+            e += 1;
+        } else {
+            return Lowest::At(e);
+        }
+    }
+    Lowest::Nothing
+}
+
+// What an edge's cover exceeds its weight by where it is chosen, else 0. The weight may be negative.
+fn excess(cover: i64, weight: &[i32], chosen: &[u8], e: usize) -> i64
+    requires { ⌜ Within (2 ^ 36) cover ⌝ }
+    requires { ⌜ (e < length (now weight)) × (e < length (now chosen)) × (markAt (now chosen) e ≤ 1) ⌝ }
+    ensures { λ r. ⌜ (r ≡ pos (markAt (now (chosen .entry)) e) *ℤ (cover -ℤ getD (now (weight .entry)) e (pos 0))) × Within (2 ^ 48) r ⌝ }
+{
+    let over = integers::subtract(cover, integers::element(weight, e));
+    integers::if_chosen(chosen[e], over)
+}
+
+// The slack of cover.
+pub fn cover_slack(edges: u32, cover: [i64; MOST_EDGES], weight: &[i32], chosen: &[u8]) -> i64
+    requires { ⌜ (edges ≤ mostEdges) × (length (now weight) ≡ edges) × MarksHold edges (now chosen) ⌝ }
+    requires { ⌜ ((e : ℕ) → e < edges → Within (2 ^ 36) (getD cover e (pos 0))) ⌝ }
+    ensures { λ r. ⌜ (r ≡ sumℤ edges (λ e. pos (markAt (now (chosen .entry)) e) *ℤ (getD cover e (pos 0) -ℤ getD (now (weight .entry)) e (pos 0)))) × Within (2 ^ 58) r ⌝ }
+{
+    let m = edges as usize;
+    let mut total = 0;
+    let mut e = 0;
+    while e < m {
+        total = integers::add(total, excess(cover[e], weight, chosen, e));
+        e += 1;
     }
     total
 }

@@ -1,6 +1,7 @@
 -- Header lines and comments, a word at a time.
-use mathlib.Core.Path.{_≡_, refl, sym, ap, _∙_, subst}
-use mathlib.Core.Bool.{Bool, true, false, not, _&&_}
+use mathlib.Core.Path.{_≡_, refl, sym, ap, ap₂, _∙_, subst}
+use mathlib.Core.Bool.{Bool, true, false, not, cond, _&&_}
+use mathlib.Core.Option.{Option, none, some}
 use mathlib.Core.List.{List, [], _∷_, map}
 use Prim.Native.Nat.{ℕ, _≤_}
 use native.Mathlib.Omega.{arith}
@@ -8,7 +9,9 @@ use lib.Dec.{eqb}
 use lib.ListN.{length, drop, getD}
 use Rattle.graph.proofs.Passing.{zero-one}
 use Rattle.layout.specs.Text.{bytes, blank, words, noWords, commentLine, same, lower, sameFolded, headerWords, begins, header}
-use Rattle.text.specs.Cursor.{firstWord, pastWord, within, follow, Taken}
+use Rattle.text.specs.Cursor.{firstWord, pastWord, within, follow, KeyTaken, kindTold}
+use Rattle.graph.specs.declared.Kind.{Kind}
+use Rattle.graph.specs.declared.Kind.the-variants.{Bipartite, General}
 use Rattle.text.specs.declared.Key.{Key}
 use Rattle.text.specs.declared.Key.the-variants as Key
 use Rattle.text.proofs.Pieces.{Front, nothing, word, front}
@@ -44,7 +47,7 @@ folded-end [] = refl
 folded-end (w ∷ ws) = refl
 
 -- No word is taken from nowhere.
-pub taken-nowhere : (l k : List ℕ) (from : Key) → from ≡ Key.Not → Taken l from k Key.Not
+pub taken-nowhere : (l k : List ℕ) (from : Key) → from ≡ Key.Not → KeyTaken l from k Key.Not
 taken-nowhere l k from h = record { inside = tt; rest = λ ks. ap (λ (q : Key). follow l q (k ∷ ks)) (sym h) }
 
 module _ (l k : List ℕ) (from : Key) (at : ℕ) (is-at : from ≡ Key.After at) (w : List ℕ) (is-w : w ≡ firstWord (words (drop at l))) where
@@ -59,7 +62,8 @@ module _ (l k : List ℕ) (from : Key) (at : ℕ) (is-at : from ≡ Key.After at
   missing h ks (nothing is) = ap (λ (ws : List (List ℕ)). sameFolded ws (k ∷ ks)) is ∙ folded-nil k ks
   missing h ks (word x v is) = let q : w ≡ x ∷ v = is-w ∙ ap firstWord is in zero-one (omega (arith, ap length q))
 
-  found : (length w ≡ 0 → ⊥) → same (map lower w) k ≡ true → (ks : List (List ℕ)) → Front l at → sameFolded (words (drop at l)) (k ∷ ks) ≡ sameFolded (words (drop (pastWord l at) l)) ks
+  found : (length w ≡ 0 → ⊥) → same (map lower w) k ≡ true → (ks : List (List ℕ)) → Front l at →
+      sameFolded (words (drop at l)) (k ∷ ks) ≡ sameFolded (words (drop (pastWord l at) l)) ks
   found ne h ks (nothing is) = absurd (ne (ap length (is-w ∙ ap firstWord is)))
   found ne h ks (word x v is) =
       let q : w ≡ x ∷ v = is-w ∙ ap firstWord is in
@@ -69,13 +73,13 @@ module _ (l k : List ℕ) (from : Key) (at : ℕ) (is-at : from ≡ Key.After at
   at-from : (ks : List (List ℕ)) → sameFolded (words (drop at l)) ks ≡ follow l from ks
   at-from ks = ap (λ (q : Key). follow l q ks) (sym is-at)
 
-  pub taken-missing : length w ≡ 0 → Taken l from k Key.Not
+  pub taken-missing : length w ≡ 0 → KeyTaken l from k Key.Not
   taken-missing h = record { inside = tt; rest = λ ks. sym (missing h ks (front l at)) ∙ at-from (k ∷ ks) }
 
-  pub taken-other : same (map lower w) k ≡ false → Taken l from k Key.Not
+  pub taken-other : same (map lower w) k ≡ false → KeyTaken l from k Key.Not
   taken-other h = record { inside = tt; rest = λ ks. sym (other h ks (front l at)) ∙ at-from (k ∷ ks) }
 
-  pub taken : (length w ≡ 0 → ⊥) → same (map lower w) k ≡ true → (e : ℕ) → e ≡ pastWord l at → e ≤ length l → Taken l from k (Key.After e)
+  pub taken : (length w ≡ 0 → ⊥) → same (map lower w) k ≡ true → (e : ℕ) → e ≡ pastWord l at → e ≤ length l → KeyTaken l from k (Key.After e)
   taken ne h e q le = record {
     inside = le;
     rest = λ ks. ap (λ (j : ℕ). sameFolded (words (drop j l)) ks) q ∙ sym (found ne h ks (front l at)) ∙ at-from (k ∷ ks);
@@ -90,7 +94,7 @@ within-at l from at h i = subst (within l) h i
 -- Four words, one after the other.
 pub four-taken :
     {l a b c d : List ℕ} {from first second third fourth : Key}
-    → Taken l from a first → Taken l first b second → Taken l second c third → Taken l third d fourth
+    → KeyTaken l from a first → KeyTaken l first b second → KeyTaken l second c third → KeyTaken l third d fourth
     → follow l fourth [] ≡ follow l from (a ∷ b ∷ c ∷ d ∷ [])
 four-taken {l} {a} {b} {c} {d} t u v w = w .rest [] ∙ v .rest (d ∷ []) ∙ u .rest (c ∷ d ∷ []) ∙ t .rest (b ∷ c ∷ d ∷ [])
 
@@ -117,3 +121,11 @@ module _ (ks : List (List ℕ)) (l : List ℕ) where
 
     pub header-after : same w (bytes "%%MatrixMarket") ≡ true → (at : ℕ) → at ≡ pastWord l 0 → follow l (Key.After at) ks ≡ header ks l
     header-after first at is-at = ap (λ (j : ℕ). sameFolded (words (drop j l)) ks) is-at ∙ by-first true first
+
+-- The kind that a line tells, by whether it is one of the two headers.
+pub kind-told :
+    (field l : List ℕ) (a b : Bool) → header (bytes "matrix" ∷ bytes "coordinate" ∷ field ∷ bytes "general" ∷ []) l ≡ a
+    → header (bytes "matrix" ∷ bytes "coordinate" ∷ field ∷ bytes "symmetric" ∷ []) l ≡ b
+    → cond a (some Bipartite) (cond b (some General) none) ≡ kindTold field l
+kind-told field l a b e f =
+    ap₂ (λ (x y : Bool). cond {A = Option Kind} x (some Bipartite) (cond {A = Option Kind} y (some General) none)) (sym e) (sym f)

@@ -17,7 +17,7 @@ use mir.Facts.{toZ-pos, toZ-ofZ}
 use Rattle.graph.proofs.Passing.{zero-one}
 use Rattle.graph.proofs.Ranges.{both}
 use Rattle.layout.specs.Text.{digit, digitsAfter, natural, integer, all3, oneWord, threeWords}
-use Rattle.text.specs.Cursor.{Small, naturalSays}
+use Rattle.text.specs.Cursor.{NineDigits, naturalSays}
 use Rattle.text.specs.declared.Natural.{Natural}
 use Rattle.text.specs.declared.Natural.the-variants as Natural
 
@@ -32,8 +32,12 @@ unfolding digitsAfter
 after-small [] n k m h e = let q : n ≡ m = cc in rw (add-zero) (omega arith)
 after-small (d ∷ ds) n k m h e = go (digit d) refl (after-small ds (n * 10 + (d - 48)) (suc k) m) e
   where
-    go : (b : Bool) → digit d ≡ b → (n * 10 + (d - 48) < 10 ^ suc k → digitsAfter (n * 10 + (d - 48)) ds ≡ some m → m < 10 ^ (suc k + length ds)) → cond b (digitsAfter (n * 10 + (d - 48)) ds) none ≡ some m → m < 10 ^ (k + suc (length ds))
-    go true is ih e = let le : d ≤ 57 = digit-le d is in let small : n * 10 + (d - 48) < 10 ^ suc k = rw pow-suc (omega arith) in rw (add-suc, ← suc-add k (length ds)) (ih small e)
+    go : (b : Bool) → digit d ≡ b → (n * 10 + (d - 48) < 10 ^ suc k → digitsAfter (n * 10 + (d - 48)) ds ≡ some m → m < 10 ^ (suc k + length ds)) →
+        cond b (digitsAfter (n * 10 + (d - 48)) ds) none ≡ some m → m < 10 ^ (k + suc (length ds))
+    go true is ih e =
+        let le : d ≤ 57 = digit-le d is in
+        let small : n * 10 + (d - 48) < 10 ^ suc k = rw pow-suc (omega arith) in
+        rw (add-suc, ← suc-add k (length ds)) (ih small e)
     go false is ih e = absent m e
 
 -- A natural number that is read is below 10 ^ 9.
@@ -48,10 +52,10 @@ natural-small w n e = go (leb 1 (length w) && leb (length w) 9) refl e
         lt-of-lt-of-le (after-small w 0 0 n (lit< tt) e) (pow-le-pow-right (lit< tt) le′)
     go false is e = absent n e
 
-pub small : (w : List ℕ) → Small (natural w)
+pub small : (w : List ℕ) → NineDigits (natural w)
 small w = go (natural w) refl
   where
-    go : (o : Option ℕ) → natural w ≡ o → Small o
+    go : (o : Option ℕ) → natural w ≡ o → NineDigits o
     go none e = tt
     go (some n) e = natural-small w n e
 
@@ -69,7 +73,8 @@ unfolding integer
 integer-plus [] h e = absurd (not-suc-le-zero h)
 integer-plus (x ∷ w) h e = rw (eq-eqb x 43 e, rest-is x w)
 
-pub integer-minus : (w : List ℕ) → 1 ≤ length w → (getD w 0 0 ≡ 43 → ⊥) → getD w 0 0 ≡ 45 → integer w ≡ Option·map (λ n. negℤ (pos n)) (natural (take (length w - 1) (drop 1 w)))
+pub integer-minus : (w : List ℕ) → 1 ≤ length w → (getD w 0 0 ≡ 43 → ⊥) → getD w 0 0 ≡ 45 →
+    integer w ≡ Option·map (λ n. negℤ (pos n)) (natural (take (length w - 1) (drop 1 w)))
 unfolding integer
 integer-minus [] h ne e = absurd (not-suc-le-zero h)
 integer-minus (x ∷ w) h ne e = rw (ne-eqb x 43 ne, eq-eqb x 45 e, rest-is x w)
@@ -100,9 +105,9 @@ pub minus-value : (n : ℕ) → n < 10 ^ 9 → toZ w32 (ofZ w32 (pos 0 -ℤ toZ 
 minus-value n h = toZ-ofZ (minus-fits n h) ∙ minus-is n h
 
 -- The answers with a sign, for a number that was read.
-module _ (m : Natural) (n : ℕ) (is : m ≡ Natural.Is n) (h : Small (naturalSays m)) where
+module _ (m : Natural) (n : ℕ) (is : m ≡ Natural.Is n) (h : NineDigits (naturalSays m)) where
   pub is-small : n < 10 ^ 9
-  is-small = subst (λ (k : Natural). Small (naturalSays k)) is h
+  is-small = subst (λ (k : Natural). NineDigits (naturalSays k)) is h
 
   pub plus-says : some (toZ w32 n) ≡ Option·map pos (naturalSays m)
   plus-says = ap some (plus-value n is-small) ∙ ap (λ (k : Natural). Option·map pos (naturalSays k)) (sym is)
@@ -110,7 +115,7 @@ module _ (m : Natural) (n : ℕ) (is : m ≡ Natural.Is n) (h : Small (naturalSa
   pub minus-says : some (toZ w32 (ofZ w32 (pos 0 -ℤ toZ w32 n))) ≡ Option·map (λ k. negℤ (pos k)) (naturalSays m)
   minus-says = ap some (minus-value n is-small) ∙ ap (λ (k : Natural). Option·map (λ j. negℤ (pos j)) (naturalSays k)) (sym is)
 
-of-natural : (f : ℕ → ℤ) → ((n : ℕ) → n < 10 ^ 9 → SFits w32 (f n)) → (o : Option ℕ) → Small o → (z : ℤ) → Option·map f o ≡ some z → SFits w32 z
+of-natural : (f : ℕ → ℤ) → ((n : ℕ) → n < 10 ^ 9 → SFits w32 (f n)) → (o : Option ℕ) → NineDigits o → (z : ℤ) → Option·map f o ≡ some z → SFits w32 z
 of-natural f g none h z e = absent z e
 of-natural f g (some n) h z e = let q : f n ≡ z = cc in subst (SFits w32) q (g n h)
 
@@ -120,7 +125,9 @@ unfolding integer
 integer-fits [] z e = absent z e
 integer-fits (x ∷ w) z e = go (eqb x 43) (eqb x 45) e
   where
-    go : (a b : Bool) → cond a (Option·map pos (natural w)) (cond b (Option·map (λ n. negℤ (pos n)) (natural w)) (Option·map pos (natural (x ∷ w)))) ≡ some z → SFits w32 z
+    go : (a b : Bool) →
+        cond a (Option·map pos (natural w)) (cond b (Option·map (λ n. negℤ (pos n)) (natural w)) (Option·map pos (natural (x ∷ w)))) ≡ some z →
+        SFits w32 z
     go true b e = of-natural pos plus-fits (natural w) (small w) z e
     go false true e = of-natural (λ n. negℤ (pos n)) negative-fits (natural w) (small w) z e
     go false false e = of-natural pos plus-fits (natural (x ∷ w)) (small (x ∷ w)) z e

@@ -4,14 +4,18 @@ use mathlib.Core.Bool.{Bool, true, false, not, cond}
 use mathlib.Core.List.{List, [], _∷_}
 use Prim.Native.Nat.{ℕ, suc, _+_, _-_, _≤_, _<_}
 use native.Mathlib.Omega.{arith}
-use lib.Dec.{eqb, eqb·suc-zero}
-use lib.ListN.{length, take, drop, getD, drop-of-length-le}
+use lib.Dec.{eqb}
+use borrow.Author.Tests.{eq-eqb, ne-eqb}
+use Rattle.graph.proofs.Passing.{zero-one}
+use lib.ListN.{length, take, drop, getD, drop-of-length-le, length-take, length-drop}
 use lib.Seq.{drop-cons, drop-drop}
 use Rattle.layout.specs.Text.{blank, newline, pieces, onFirst, nonEmpty, lines, words, noWords}
-use Rattle.text.specs.Cursor.{run, inLine, inWord, past, firstWord, pastWord}
+use Rattle.text.proofs.Scans.{run-le}
+use Rattle.text.specs.Cursor.{run, inLine, inWord, past, wordAt, firstWord, pastWord}
 
 -- The first piece goes up to the first byte that ends one, and the others are those of what follows that byte.
-pieces-step : (p : ℕ → Bool) (x : ℕ) (xs : List ℕ) → pieces p (x ∷ xs) ≡ take (run (λ y. not (p y)) (x ∷ xs)) (x ∷ xs) ∷ pieces p (drop (suc (run (λ y. not (p y)) (x ∷ xs))) (x ∷ xs))
+pieces-step : (p : ℕ → Bool) (x : ℕ) (xs : List ℕ) →
+    pieces p (x ∷ xs) ≡ take (run (λ y. not (p y)) (x ∷ xs)) (x ∷ xs) ∷ pieces p (drop (suc (run (λ y. not (p y)) (x ∷ xs))) (x ∷ xs))
 unfolding pieces onFirst run
 pieces-step p x [] = go (p x)
   where
@@ -24,7 +28,8 @@ pieces-step p x (y ∷ ys) = go (p x) (pieces-step p y ys)
     r = run (λ z. not (p z)) (y ∷ ys)
 
     go : (b : Bool) → pieces p (y ∷ ys) ≡ take r (y ∷ ys) ∷ pieces p (drop (suc r) (y ∷ ys))
-        → cond b ([] ∷ pieces p (y ∷ ys)) (onFirst x (pieces p (y ∷ ys))) ≡ take (cond (not b) (suc r) 0) (x ∷ y ∷ ys) ∷ pieces p (drop (suc (cond (not b) (suc r) 0)) (x ∷ y ∷ ys))
+        → cond b ([] ∷ pieces p (y ∷ ys)) (onFirst x (pieces p (y ∷ ys)))
+        ≡ take (cond (not b) (suc r) 0) (x ∷ y ∷ ys) ∷ pieces p (drop (suc (cond (not b) (suc r) 0)) (x ∷ y ∷ ys))
     go true ih = refl
     go false ih = ap (onFirst x) ih
 
@@ -43,7 +48,10 @@ unfolding lines
 lines-some s at e lt is =
     let k : e - at ≡ run inLine (drop at s) = omega arith in
     let k′ : at + suc (run inLine (drop at s)) ≡ e + 1 = omega arith in
-    rw k (step ∙ ap (λ (l : List ℕ). take (run inLine (drop at s)) (drop at s) ∷ pieces newline l) (drop-drop (suc (run inLine (drop at s))) at s ∙ ap (λ (j : ℕ). drop j s) k′))
+    rw k
+    (step
+    ∙ ap (λ (l : List ℕ). take (run inLine (drop at s)) (drop at s) ∷ pieces newline l)
+    (drop-drop (suc (run inLine (drop at s))) at s ∙ ap (λ (j : ℕ). drop j s) k′))
   where
     step : pieces newline (drop at s) ≡ take (run inLine (drop at s)) (drop at s) ∷ pieces newline (drop (suc (run inLine (drop at s))) (drop at s))
     step = rw (drop-cons s at 0 lt) (pieces-step newline (getD s at 0) (drop (suc at) s))
@@ -124,23 +132,54 @@ module _ (l : List ℕ) (at : ℕ) where
       go [] is = nothing (to-word ∙ ap words is ∙ words-nil)
       go (y ∷ ys) is =
           let nb : blank y ≡ false = no-blank y ys is in
-          let left : drop (run inWord (y ∷ ys)) (y ∷ ys) ≡ drop (pastWord l at) l = ap (λ (m : List ℕ). drop (run inWord m) m) (sym is) ∙ drop-drop (run inWord (drop a l)) a l in
-          word y (take (run inWord ys) ys) (to-word ∙ ap words is ∙ words-first y ys nb ∙ ap₂ (λ (n : ℕ) (m : List ℕ). take n (y ∷ ys) ∷ words m) (run-word y ys nb) left)
+          let left : drop (run inWord (y ∷ ys)) (y ∷ ys) ≡ drop (pastWord l at) l = ap (λ (m : List ℕ). drop (run inWord m) m) (sym is)
+          ∙ drop-drop (run inWord (drop a l)) a l in
+          word y (take (run inWord ys) ys)
+          (to-word ∙ ap words is ∙ words-first y ys nb ∙ ap₂ (λ (n : ℕ) (m : List ℕ). take n (y ∷ ys) ∷ words m) (run-word y ys nb) left)
 
-  -- The first word, by the places where it begins and ends.
-  pub word-is : (s e : ℕ) → s ≡ a → e ≡ past inWord l s → take (e - s) (drop s l) ≡ firstWord (words (drop at l))
-  word-is s e es ee =
-      let k : e - s ≡ run inWord (drop s l) = omega arith in
-      rw k (ap (λ (j : ℕ). take (run inWord (drop j l)) (drop j l)) es ∙ go (drop a l) refl ∙ ap firstWord (sym to-word))
+  -- The word that begins after the blanks is the first, and it ends where that does.
+  first-word : wordAt l a ≡ firstWord (words (drop at l))
+  first-word = go (drop a l) refl ∙ ap firstWord (sym to-word)
     where
-      go : (m : List ℕ) → drop a l ≡ m → take (run inWord (drop a l)) (drop a l) ≡ firstWord (words (drop a l))
+      go : (m : List ℕ) → drop a l ≡ m → wordAt l a ≡ firstWord (words (drop a l))
       go [] is = ap (λ (m : List ℕ). take (run inWord m) m) is ∙ first-nil ∙ ap (λ (m : List ℕ). firstWord (words m)) (sym is)
       go (y ∷ ys) is =
-          ap (λ (m : List ℕ). take (run inWord m) m) is ∙ sym (ap firstWord (words-first y ys (no-blank y ys is))) ∙ ap (λ (m : List ℕ). firstWord (words m)) (sym is)
+          ap (λ (m : List ℕ). take (run inWord m) m) is ∙ sym (ap firstWord (words-first y ys (no-blank y ys is)))
+          ∙ ap (λ (m : List ℕ). firstWord (words m)) (sym is)
 
-  pub no-words-is : (w : List ℕ) → w ≡ firstWord (words (drop at l)) → eqb (length w) 0 ≡ noWords (words (drop at l))
-  no-words-is w e = ap (λ (v : List ℕ). eqb (length v) 0) e ∙ go front
+  module _ {s : ℕ} (es : s ≡ a) {w : List ℕ} (is : w ≡ wordAt l s) where
+    pub word-is : w ≡ firstWord (words (drop at l))
+    word-is = is ∙ ap (wordAt l) es ∙ first-word
+
+    pub word-past : s + length w ≡ pastWord l at
+    word-past =
+        let k : length w ≡ run inWord (drop s l) = ap length is ∙ simp length-take (omega (arith, run-le inWord (drop s l))) in
+        omega (arith, ap (λ j. j + run inWord (drop j l)) es)
+
+  -- No word is left where the blanks go to the end.
+  pub no-words-is : at ≤ length l → eqb a (length l) ≡ noWords (words (drop at l))
+  no-words-is le = go (drop a l) refl
     where
-      go : Front l at → eqb (length (firstWord (words (drop at l)))) 0 ≡ noWords (words (drop at l))
-      go (nothing is) = rw is
-      go (word x v is) = rw is (eqb·suc-zero (length v))
+      long : length (drop a l) ≡ length l - a
+      long = length-drop a l
+
+      inside : a ≤ length l
+      inside = omega (arith, run-le blank (drop at l), length-drop at l)
+
+      go : (m : List ℕ) → drop a l ≡ m → eqb a (length l) ≡ noWords (words (drop at l))
+      go [] is =
+          let e : a ≡ length l = omega (arith, long, inside, ap length is) in
+          eq-eqb a (length l) e ∙ ap noWords (sym (to-word ∙ ap words is ∙ words-nil))
+      go (y ∷ ys) is =
+          ne-eqb a (length l) (λ e. zero-one (omega (arith, long, ap length is)))
+          ∙ ap noWords (sym (to-word ∙ ap words is ∙ words-first y ys (no-blank y ys is)))
+
+-- The word that begins at s and ends at e.
+module _ (l : List ℕ) (s e : ℕ) (le : s ≤ length l) (ee : e ≡ past inWord l s) where
+  pub word-part : take (e - s) (drop s l) ≡ wordAt l s
+  word-part = let k : e - s ≡ run inWord (drop s l) = omega arith in ap (λ j. take j (drop s l)) k
+
+  pub word-inside : s + length (take (e - s) (drop s l)) ≤ length l
+  word-inside =
+      let k : length (take (e - s) (drop s l)) ≤ length l - s = simp (length-take, length-drop) (omega arith) in
+      omega arith

@@ -40,7 +40,8 @@ module _ {A : Type 0} (f : List ℕ → Option A) (l : List ℕ) (c : Cursor) wh
   next-of w is o e = ap (λ (p : Option A). Option·map (λ a. (a, after)) p) (ap f (sym is) ∙ e)
 
   -- What a method finds.
-  pub next-is : (w : List ℕ) → w ≡ firstWord (words (drop (c .at) l)) → (a : A) → f w ≡ some a → (e : ℕ) → e ≡ pastWord l (c .at) → some (a, record { at = e; line = c .line }) ≡ next f l c
+  pub next-is : (w : List ℕ) → w ≡ firstWord (words (drop (c .at) l)) → (a : A) → f w ≡ some a → (e : ℕ) → e ≡ pastWord l (c .at) →
+      some (a, record { at = e; line = c .line }) ≡ next f l c
   next-is w is a h e q = ap (λ (j : ℕ). some (a, record { at = j; line = c .line })) q ∙ sym (next-of w is (some a) h)
 
   pub next-bad : (w : List ℕ) → w ≡ firstWord (words (drop (c .at) l)) → f w ≡ none → none ≡ next f l c
@@ -52,7 +53,9 @@ module _ {A : Type 0} (f : List ℕ → Option A) (l : List ℕ) (c : Cursor) wh
     where
       go : (o : Option A) → f (firstWord (words (drop (c .at) l))) ≡ o → f (firstWord (words (drop (c .at) l))) ≡ none
       go none e = e
-      go (some a) e = let q : _≡_ {A = Option (A × Cursor)} none (some (a, after)) = h ∙ next-of (firstWord (words (drop (c .at) l))) refl (some a) e in zero-one (cc)
+      go (some a) e =
+          let q : _≡_ {A = Option (A × Cursor)} none (some (a, after)) = h ∙ next-of (firstWord (words (drop (c .at) l))) refl (some a) e in
+          zero-one (cc)
 
   pub took : f [] ≡ none → c .at ≤ length l → (a : A) (d : Cursor) → some (a, d) ≡ next f l c → Took f l (c .at) a (d .at)
   took empty le a d h = by (f (firstWord (words (drop (c .at) l)))) refl
@@ -87,7 +90,8 @@ module _ {A : Type 0} (f : List ℕ → Option A) where
   one-step u (v ∷ ws) = refl
 
   -- A word that is read, and whether another follows.
-  pub one-last : (l : List ℕ) (at : ℕ) (a : A) (e : ℕ) → Took f l at a e → (b : Bool) → noWords (words (drop e l)) ≡ b → cond b (some a) none ≡ oneWord f (words (drop at l))
+  pub one-last : (l : List ℕ) (at : ℕ) (a : A) (e : ℕ) → Took f l at a e → (b : Bool) → noWords (words (drop e l)) ≡ b →
+      cond b (some a) none ≡ oneWord f (words (drop at l))
   one-last l at a e t b h =
       ap₂ (λ (x : Bool) (o : Option A). cond x o none) (sym h) (sym (t .value)) ∙ sym (one-step (t .read) (words (drop e l))) ∙ ap (oneWord f) (sym (t .ahead))
 
@@ -110,8 +114,11 @@ module _ {A B : Type 0} (f : List ℕ → Option A) (g : List ℕ → Option B) 
   two-step u (v ∷ w ∷ ws) a h = refl
 
   -- A word that is read, and the one number that is left.
-  pub two-last : (l : List ℕ) (a : A) (e : ℕ) → Took f l 0 a e → (o : Option B) → o ≡ oneWord g (words (drop e l)) → Option·map (λ b. (a, b)) o ≡ twoWords f g (words l)
-  two-last l a e t o h = ap (λ (p : Option B). Option·map (λ b. (a, b)) p) h ∙ sym (two-step (t .read) (words (drop e l)) a (t .value)) ∙ ap (twoWords f g) (sym (t .ahead))
+  pub two-last : (l : List ℕ) (a : A) (e : ℕ) → Took f l 0 a e → (o : Option B) → o ≡ oneWord g (words (drop e l)) →
+      Option·map (λ b. (a, b)) o ≡ twoWords f g (words l)
+  two-last l a e t o h =
+      ap (λ (p : Option B). Option·map (λ b. (a, b)) p) h ∙ sym (two-step (t .read) (words (drop e l)) a (t .value))
+      ∙ ap (twoWords f g) (sym (t .ahead))
 
 module _ {A B C : Type 0} (f : List ℕ → Option A) (g : List ℕ → Option B) (h : List ℕ → Option C) where
   pub three-bad : (ws : List (List ℕ)) → f (firstWord ws) ≡ none → threeWords f g h ws ≡ none
@@ -142,10 +149,12 @@ module _ {A B C : Type 0} (f : List ℕ → Option A) (g : List ℕ → Option B
     three-second q = rest ∙ ap (λ (o : Option (B × C)). Option·map (λ p. (a, p .0, p .1)) o) (two-bad g h (words (drop e l)) q)
 
     -- Two words that are read, and the one number that is left.
-    pub three-last : (b : B) (j : ℕ) → Took g l e b j → (o : Option C) → o ≡ oneWord h (words (drop j l)) → Option·map (λ c. (a, b, c)) o ≡ threeWords f g h (words l)
+    pub three-last : (b : B) (j : ℕ) → Took g l e b j → (o : Option C) → o ≡ oneWord h (words (drop j l)) →
+        Option·map (λ c. (a, b, c)) o ≡ threeWords f g h (words l)
     three-last b j u o q =
         ap (λ (p : Option C). Option·map (λ c. (a, b, c)) p) q ∙ sym (go (oneWord h (words (drop j l))))
-        ∙ ap (λ (p : Option (B × C)). Option·map (λ r. (a, r .0, r .1)) p) (sym (ap (twoWords g h) (u .ahead) ∙ two-step g h (u .read) (words (drop j l)) b (u .value)))
+        ∙ ap (λ (p : Option (B × C)). Option·map (λ r. (a, r .0, r .1)) p)
+        (sym (ap (twoWords g h) (u .ahead) ∙ two-step g h (u .read) (words (drop j l)) b (u .value)))
         ∙ sym rest
       where
         go : (o : Option C) → Option·map {B = A × B × C} (λ p. (a, p .0, p .1)) (Option·map {B = B × C} (λ c. (b, c)) o) ≡ Option·map (λ c. (a, b, c)) o

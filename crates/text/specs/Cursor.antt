@@ -6,8 +6,10 @@ use mathlib.Core.List.{List, [], _∷_}
 use mathlib.Core.Option.{Option, none, some, Option·map}
 use lib.Dec.{ltb}
 use lib.IntN.{ℤ}
-use lib.ListN.{length, drop}
-use Rattle.layout.specs.Text.{newline, blank, words, sameFolded}
+use lib.ListN.{length, take, drop}
+use Rattle.graph.specs.declared.Kind.{Kind}
+use Rattle.graph.specs.declared.Kind.the-variants.{Bipartite, General}
+use Rattle.layout.specs.Text.{bytes, newline, blank, words, sameFolded, header}
 use Rattle.text.specs.declared.Cursor.{Cursor}
 use Rattle.text.specs.declared.Line.{Line}
 use Rattle.text.specs.declared.Line.the-variants.{Part, Done}
@@ -25,6 +27,8 @@ use Rattle.text.specs.declared.Triple.{Triple}
 use Rattle.text.specs.declared.Triple.the-variants as Triple
 use Rattle.text.specs.declared.EdgeLine.{EdgeLine}
 use Rattle.text.specs.declared.EdgeLine.the-variants as EdgeLine
+use Rattle.text.specs.declared.HeaderKind.{HeaderKind}
+use Rattle.text.specs.declared.HeaderKind.the-variants as HeaderKind
 use Rattle.text.specs.declared.Key.{Key}
 use Rattle.text.specs.declared.Key.the-variants as Key
 
@@ -50,6 +54,10 @@ nextLine s c =
     cond (ltb (c .at) (length s))
     (Part (c .at) (past inLine s (c .at)) (record { at = past inLine s (c .at) + 1; line = c .line + 1 }))
     Done
+
+-- The word that begins at a place.
+abbrev pub wordAt : List ℕ → ℕ → List ℕ
+wordAt l start = take (run inWord (drop start l)) (drop start l)
 
 -- The first of some words, or nothing.
 abbrev pub firstWord : List (List ℕ) → List ℕ
@@ -94,9 +102,9 @@ edgeLineSays (EdgeLine.Is row column weight) = some (row, column, weight)
 edgeLineSays EdgeLine.Bad = none
 
 -- A number that was read has at most nine digits.
-abbrev pub Small : Option ℕ → Type 0
-Small none = Unit {0}
-Small (some n) = n < 10 ^ 9
+abbrev pub NineDigits : Option ℕ → Type 0
+NineDigits none = Unit {0}
+NineDigits (some n) = n < 10 ^ 9
 
 -- How far the words of a header are found in a line: those from a place on are to be ks.
 abbrev pub within : List ℕ → Key → Type 0
@@ -108,6 +116,16 @@ follow l (Key.After at) ks = sameFolded (words (drop at l)) ks
 follow l Key.Not ks = false
 
 -- The word k is taken from a place on: what may follow it is what may follow the answer.
-pub record Taken (l : List ℕ) (from : Key) (k : List ℕ) (r : Key) : Type 0 where
+pub record KeyTaken (l : List ℕ) (from : Key) (k : List ℕ) (r : Key) : Type 0 where
   pub inside : within l r
   pub rest : (ks : List (List ℕ)) → follow l r ks ≡ follow l from (k ∷ ks)
+
+-- The kind that a line tells: `%%MatrixMarket matrix coordinate`, a field, and `general` for a bipartite graph or `symmetric` for a general one.
+abbrev pub kindTold : List ℕ → List ℕ → Option Kind
+kindTold field l =
+    cond (header (bytes "matrix" ∷ bytes "coordinate" ∷ field ∷ bytes "general" ∷ []) l) (some Bipartite)
+    (cond (header (bytes "matrix" ∷ bytes "coordinate" ∷ field ∷ bytes "symmetric" ∷ []) l) (some General) none)
+
+abbrev pub kindSays : HeaderKind → Option Kind
+kindSays (HeaderKind.Is kind) = some kind
+kindSays HeaderKind.Not = none

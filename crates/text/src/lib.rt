@@ -2,11 +2,12 @@
 ghost use mathlib.Core.Path.{_≡_};
 ghost use mathlib.Core.List.{[], _∷_, map};
 ghost use mathlib.Core.Option.{Option·map};
-ghost use Prim.Native.Nat.{_≤_};
+ghost use Prim.Native.Nat.{_+_, _≤_};
 ghost use lib.IntN.{pos, negℤ};
 ghost use lib.ListN.{length, drop};
 ghost use Rattle.layout.specs.Text.{blank, lower, words, natural, integer, oneWord, twoWords, threeWords, noWords, blankLine, commentLine, same, begins, header};
-ghost use Rattle.text.specs.Cursor.{inLine, inWord, past, pastWord, nextLine, firstWord, next, naturalSays, integerSays, nextNaturalSays, nextIntegerSays, pairSays, tripleSays, edgeLineSays, Small, within, follow, Taken};
+ghost use Rattle.text.specs.Cursor.{inLine, inWord, past, nextLine, wordAt, next, naturalSays, integerSays, nextNaturalSays, nextIntegerSays, pairSays, tripleSays, edgeLineSays, NineDigits, within, follow, KeyTaken, kindSays, kindTold};
+use graph::Kind;
 
 // A place in a text or in a line: its byte, and how many lines of the text were passed.
 pub struct Cursor {
@@ -105,24 +106,14 @@ impl Cursor {
     }
 }
 
-// The first word of the line from `from` on, as a part of the line; empty where there is none.
-fn word(line: &[u8], from: usize) -> &[u8]
-    requires { ⌜ from ≤ length (now line) ⌝ }
-    ensures { λ r. ⌜ now r ≡ firstWord (words (drop from (now (line .entry)))) ⌝ }
+// The word that begins at a place, as a part of the line; empty where none begins.
+fn word(line: &[u8], start: usize) -> &[u8]
+    requires { ⌜ start ≤ length (now line) ⌝ }
+    ensures part { λ r. ⌜ now r ≡ wordAt (now (line .entry)) start ⌝ }
+    ensures bounded { λ r. ⌜ start + length (now r) ≤ length (now (line .entry)) ⌝ }
 {
-    let a = skip_blanks(line, from);
-    let b = word_end(line, a);
-    &line[a..b]
-}
-
-// The place after that word.
-fn past_word(line: &[u8], from: usize) -> usize
-    requires { ⌜ from ≤ length (now line) ⌝ }
-    ensures place { λ r. ⌜ r ≡ pastWord (now (line .entry)) from ⌝ }
-    ensures bounded { λ r. ⌜ r ≤ length (now (line .entry)) ⌝ }
-{
-    let a = skip_blanks(line, from);
-    word_end(line, a)
+    let end = word_end(line, start);
+    &line[start..end]
 }
 
 // No word is left from `from` on.
@@ -130,8 +121,7 @@ fn no_words(line: &[u8], from: usize) -> bool
     requires { ⌜ from ≤ length (now line) ⌝ }
     ensures { λ r. ⌜ r ≡ noWords (words (drop from (now (line .entry)))) ⌝ }
 {
-    let w = word(line, from);
-    w.len() == 0
+    skip_blanks(line, from) == line.len()
 }
 
 // A line that is empty or of blanks only.
@@ -190,7 +180,7 @@ fn read_natural(w: &[u8]) -> Natural
 
 // A number that was read, with the sign + or none, and with the sign -.
 fn plus(n: Natural) -> Integer
-    requires { ⌜ Small (naturalSays n) ⌝ }
+    requires { ⌜ NineDigits (naturalSays n) ⌝ }
     ensures { λ r. ⌜ integerSays r ≡ Option·map pos (naturalSays n) ⌝ }
 {
     match n {
@@ -200,7 +190,7 @@ fn plus(n: Natural) -> Integer
 }
 
 fn minus(n: Natural) -> Integer
-    requires { ⌜ Small (naturalSays n) ⌝ }
+    requires { ⌜ NineDigits (naturalSays n) ⌝ }
     ensures { λ r. ⌜ integerSays r ≡ Option·map (λ k. negℤ (pos k)) (naturalSays n) ⌝ }
 {
     match n {
@@ -243,16 +233,18 @@ impl Cursor {
         requires { ⌜ self .at ≤ length (now line) ⌝ }
         ensures { λ r. ⌜ nextNaturalSays r ≡ next natural (now (line .entry)) self ⌝ }
     {
-        let from = self.at;
         let passed = self.line;
-        let w = word(line, from);
+        let start = skip_blanks(line, self.at);
+        let w = word(line, start);
         let Natural::Is(value) = read_natural(w) else {
             return NextNatural::Bad;
         };
-        let at = past_word(line, from);
         NextNatural::Is {
             value,
-            next: Cursor { at, line: passed },
+            next: Cursor {
+                at: start + w.len(),
+                line: passed,
+            },
         }
     }
 
@@ -261,16 +253,18 @@ impl Cursor {
         requires { ⌜ self .at ≤ length (now line) ⌝ }
         ensures { λ r. ⌜ nextIntegerSays r ≡ next integer (now (line .entry)) self ⌝ }
     {
-        let from = self.at;
         let passed = self.line;
-        let w = word(line, from);
+        let start = skip_blanks(line, self.at);
+        let w = word(line, start);
         let Integer::Is(value) = read_integer(w) else {
             return NextInteger::Bad;
         };
-        let at = past_word(line, from);
         NextInteger::Is {
             value,
-            next: Cursor { at, line: passed },
+            next: Cursor {
+                at: start + w.len(),
+                line: passed,
+            },
         }
     }
 
@@ -453,20 +447,20 @@ enum Key {
 // The word k, its case folded, comes next.
 fn keyword(line: &[u8], from: Key, k: &[u8]) -> Key
     requires { ⌜ within (now line) from ⌝ }
-    ensures { λ r. ⌜ Taken (now (line .entry)) from (now (k .entry)) r ⌝ }
+    ensures { λ r. ⌜ KeyTaken (now (line .entry)) from (now (k .entry)) r ⌝ }
 {
     let Key::After(at) = from else {
         return Key::Not;
     };
-    let w = word(line, at);
+    let start = skip_blanks(line, at);
+    let w = word(line, start);
     if w.len() == 0 {
         return Key::Not;
     }
     if !same_folded(w, k) {
         return Key::Not;
     }
-    let e = past_word(line, at);
-    Key::After(e)
+    Key::After(start + w.len())
 }
 
 // No word comes any more.
@@ -497,14 +491,33 @@ pub fn is_header(line: &[u8], a: &[u8], b: &[u8], c: &[u8], d: &[u8]) -> bool
     if !word_first(line) {
         return false;
     }
-    let w = word(line, 0);
+    let start = skip_blanks(line, 0);
+    let w = word(line, start);
     if !same_word(w, b"%%MatrixMarket") {
         return false;
     }
-    let at = past_word(line, 0);
+    let at = start + w.len();
     let first = keyword(line, Key::After(at), a);
     let second = keyword(line, first, b);
     let third = keyword(line, second, c);
     let fourth = keyword(line, third, d);
     ended(line, fourth)
+}
+
+// The kind of graph that a header line tells, if it is the header of a text of coordinates with a field.
+pub enum HeaderKind {
+    Is(Kind),
+    Not,
+}
+
+pub fn header_kind(line: &[u8], field: &[u8]) -> HeaderKind
+    ensures { λ r. ⌜ kindSays r ≡ kindTold (now (field .entry)) (now (line .entry)) ⌝ }
+{
+    if is_header(line, b"matrix", b"coordinate", field, b"general") {
+        return HeaderKind::Is(Kind::Bipartite);
+    }
+    if is_header(line, b"matrix", b"coordinate", field, b"symmetric") {
+        return HeaderKind::Is(Kind::General);
+    }
+    HeaderKind::Not
 }

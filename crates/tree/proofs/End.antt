@@ -10,15 +10,16 @@ use Rattle.integers.specs.Sum.{is}
 use Rattle.integers.proofs.Sum.{is-same, is-other, sum-change, sum-const}
 use Rattle.graph.specs.Graph.{Graph, vertices}
 use Rattle.graph.specs.Subgraph.{markAt, degree}
-use Rattle.method.specs.Method.{level, value, cost, limit, Network, Good, Done, Tree, Augmented, Sought}
-use Rattle.tree.specs.Tree.{Free, Searching, Ended}
-use Rattle.tree.proofs.Arc.{Put, lt-or-ge}
+use Rattle.tree.specs.Method.{level, value, cost, limit, Solvable, Good, Done, Tree, Augmented, Sought}
+use Rattle.tree.proofs.Solvable.{rows-in}
+use Rattle.tree.specs.Tree.{FreeColumn, Searching, Ended}
+use Rattle.tree.proofs.Leading.{Put, lt-or-ge}
 use Rattle.tree.proofs.Label.{Label, labels-more, tight-more, tree-more, label-in}
 use Rattle.tree.proofs.Notes.{near-none, near-next, newest-next}
 
 -- The start: the root has rank 1, and no other vertex a label.
 module _ {g : Graph} {bound : List ℤ} {x : List ℕ} {price rank near : ℕ → ℕ} {root : ℕ}
-    (net : Network g) (good : Good g bound x price) (low : root < g .rows) (put : Put (λ v. 0) rank root 1) (none : (w : ℕ) → near w ≡ 0) where
+    (net : Solvable g) (good : Good g bound x price) (low : root < g .rows) (put : Put (λ v. 0) rank root 1) (none : (w : ℕ) → near w ≡ 0) where
   alone : (w : ℕ) → 0 < rank w → w ≡ root
   alone w s = elim (ℕ-discrete w root) [ yes e ↦ e | no n ↦ absurd (omega (arith, put .other w n)) ]
 
@@ -35,7 +36,7 @@ module _ {g : Graph} {bound : List ℤ} {x : List ℕ} {price rank near : ℕ �
     saturated = λ w d l s. absurd (omega (arith, alone w s));
     tally = omega (
       arith,
-      sum-change (vertices g) root (λ w. is (rank w) 0) (λ w. 1) (omega (arith, net .rows-in)) (λ w l n. ap (λ k. is k 0) (put .other w n)),
+      sum-change (vertices g) root (λ w. is (rank w) 0) (λ w. 1) (omega (arith, rows-in net)) (λ w l n. ap (λ k. is k 0) (put .other w n)),
       sum-const (vertices g) 1,
       ap (λ k. is k 0) (put .at),
       is-other 1 0 (λ e. omega (arith, e)),
@@ -46,29 +47,33 @@ module _ {g : Graph} {bound : List ℤ} {x : List ℕ} {price rank near : ℕ �
   searching = record {
     good = good;
     tree = first;
-    newest = record { inside = omega (arith, net .rows-in); newest = put .at; only = λ w e. alone w (omega arith) };
+    newest = record { inside = omega (arith, rows-in net); newest = put .at; only = λ w e. alone w (omega arith) };
     notes = near-none none;
     falls = λ w d. omega arith;
   }
 
 module _ {g : Graph} {bound : List ℤ} {x : List ℕ} {start price label rank near : ℕ → ℕ} {root count u e : ℕ}
-    (net : Network g) (s : Searching g bound x start price label rank near root count u e) where
+    (net : Solvable g) (s : Searching g bound x start price label rank near root count u e) where
   -- The path ends at a labelled row vertex with price 0.
   pub end-row : {v : ℕ} → v < g .rows → 0 < rank v → price v ≡ level → Ended g bound x start price label rank root v
   end-row {v} d a z = record {
     good = s .good;
     falls = s .falls;
     root-row = s .tree .root-row;
-    labels = record { of-row = λ w d n a l. s .tree .labels .of-row w d n a (s .tree .under w); of-column = λ w d i a l. s .tree .labels .of-column w d i a (s .tree .under w) };
+    labels = record {
+      of-row = λ w d n a l. s .tree .labels .of-row w d n a (s .tree .under w);
+      of-column = λ w d i a l. s .tree .labels .of-column w d i a (s .tree .under w);
+    };
     tight = s .tree .tight;
-    inside = omega (arith, net .rows-in);
+    inside = omega (arith, rows-in net);
     seen = a;
     at-row = λ l. z;
     at-column = λ l. absurd (omega arith);
   }
 
   -- It ends at the vertex labelled last, a column vertex that is not saturated.
-  pub end-column : {label′ rank′ : ℕ → ℕ} {f q : ℕ} → Label g x price label rank label′ rank′ count f q → Free (g .rows) bound (degree g x) f → Ended g bound x start price label′ rank′ root f
+  pub end-column : {label′ rank′ : ℕ → ℕ} {f q : ℕ} → Label g x price label rank label′ rank′ count f q → FreeColumn (g .rows) bound (degree g x) f →
+      Ended g bound x start price label′ rank′ root f
   end-column {label′} {rank′} {f} l free = record {
     good = s .good;
     falls = s .falls;
@@ -83,19 +88,22 @@ module _ {g : Graph} {bound : List ℤ} {x : List ℕ} {start price label rank n
 
 -- The search goes on from the vertex labelled last.
 pub goes-on : {g : Graph} {bound : List ℤ} {x : List ℕ} {start price label rank near label′ rank′ : ℕ → ℕ} {root count u f q : ℕ}
-    → Network g → Searching g bound x start price label rank near root count u (g .edges) → Label g x price label rank label′ rank′ count f q → (Free (g .rows) bound (degree g x) f → ⊥)
+    → Solvable g → Searching g bound x start price label rank near root count u (g .edges) → Label g x price label rank label′ rank′ count f q →
+    (FreeColumn (g .rows) bound (degree g x) f → ⊥)
     → Searching g bound x start price label′ rank′ near root (count + 1) f 0
 goes-on {g} {bound} {x} {f = f} net s l free = record {
   good = s .good;
   tree = tree-more net (s .good) (s .tree) l
-      (λ d. ⊎-elim (λ r. absurd (free (record { column = d; room = r }))) (λ r. omega (arith, s .good .within f (label-in net (s .good) (s .tree) l))) (lt-or-ge (degree g x f) (limit bound f)));
+      (λ d. ⊎-elim (λ r. absurd (free (record { column = d; room = r }))) (λ r. omega (arith, s .good .within f (label-in net (s .good) (s .tree) l)))
+      (lt-or-ge (degree g x f) (limit bound f)));
   newest = newest-next net (s .good) (s .tree) l;
   notes = near-next net (s .good) (s .tree) l (s .notes);
   falls = s .falls;
 }
 
 module _ {g : Graph} {bound : List ℤ} {x y : List ℕ} {start price label rank : ℕ → ℕ} {root v : ℕ}
-    (net : Network g) (e : Ended g bound x start price label rank root v) (room : degree g x root < limit bound root) (a : Augmented g label rank root v x y) where
+    (net : Solvable g) (e : Ended g bound x start price label rank root v) (room : degree g x root < limit bound root)
+    (a : Augmented g label rank root v x y) where
   -- Only labels change, and a label is tight.
   same : (k : ℕ) → (cost g price k ≡ value g k → ⊥) → markAt y k ≡ markAt x k
   same k f = a .kept k (λ h l n s i. f (subst (λ j. cost g price j ≡ value g j) i (e .tight h l n s)))
@@ -112,9 +120,29 @@ module _ {g : Graph} {bound : List ℤ} {x y : List ℕ} {start price label rank
 
       from-column : g .rows ≤ v → degree g y h ≤ limit bound h
       from-column d = elim (ℕ-discrete root h) [
-        | yes i ↦ omega (arith, a .from-column d h, room, ap (λ k. degree g x k) i, ap (λ k. limit bound k) i, ap (λ k. is k h) i, is-same h, is-other v h (λ j. omega (arith, i, j, e .root-row)))
+        | yes i ↦
+            omega (
+              arith,
+              a .from-column d h,
+              room,
+              ap (λ k. degree g x k) i,
+              ap (λ k. limit bound k) i,
+              ap (λ k. is k h) i,
+              is-same h,
+              is-other v h (λ j. omega (arith, i, j, e .root-row)),
+            )
         | no n ↦ elim (ℕ-discrete v h) [
-          | yes i ↦ omega (arith, a .from-column d h, is-other root h n, e .at-column d, ap (λ k. degree g x k) i, ap (λ k. limit bound k) i, ap (λ k. is k h) i, is-same h)
+          | yes i ↦
+              omega (
+                arith,
+                a .from-column d h,
+                is-other root h n,
+                e .at-column d,
+                ap (λ k. degree g x k) i,
+                ap (λ k. limit bound k) i,
+                ap (λ k. is k h) i,
+                is-same h,
+              )
           | no j ↦ omega (arith, a .from-column d h, is-other root h n, is-other v h j, e .good .within h l)
         ]
       ]

@@ -10,9 +10,10 @@ use Rattle.integers.specs.Sum.{is}
 use Rattle.integers.proofs.Sum.{is-same, is-other, sum-change}
 use Rattle.graph.specs.Graph.{Graph, vertices, firstEnd, secondEnd}
 use Rattle.graph.specs.Subgraph.{markAt, degree}
-use Rattle.method.specs.Method.{value, cost, limit, Network, Good, Link, Labels, Tree}
+use Rattle.tree.specs.Method.{value, cost, limit, Solvable, Good, Link, Labels, Tree}
+use Rattle.tree.proofs.Solvable.{first-to, second-from}
 use Rattle.tree.specs.Tree.{tail, head}
-use Rattle.tree.proofs.Arc.{arc, Put, head-in}
+use Rattle.tree.proofs.Leading.{arc, Put, head-in}
 
 -- The new label, of vertex f, which had none, is edge q, which leads to f from a labelled vertex and is tight.
 pub record Label (g : Graph) (x : List ℕ) (price label rank label′ rank′ : ℕ → ℕ) (count f q : ℕ) : Type 0 where
@@ -25,7 +26,8 @@ pub record Label (g : Graph) (x : List ℕ) (price label rank label′ rank′ :
   pub rank-put : Put rank rank′ f (count + 1)
 
 module _ {g : Graph} {bound : List ℤ} {x : List ℕ} {price label rank label′ rank′ : ℕ → ℕ} {root count f q : ℕ}
-    (net : Network g) (good : Good g bound x price) (tree : Tree g bound x price label rank root count) (l : Label g x price label rank label′ rank′ count f q) where
+    (net : Solvable g) (good : Good g bound x price) (tree : Tree g bound x price label rank root count)
+    (l : Label g x price label rank label′ rank′ count f q) where
   rank-f : rank′ f ≡ count + 1
   rank-f = l .rank-put .at
 
@@ -36,7 +38,7 @@ module _ {g : Graph} {bound : List ℤ} {x : List ℕ} {price label rank label�
   rank-old h s = l .rank-put .other h (other h s)
 
   pub label-in : f < vertices g
-  label-in = omega (arith, l .to, head-in net x q (l .inside) (good .marks q))
+  label-in = omega (arith, l .to, head-in net x q (l .inside))
 
   -- A label that was there.
   old : (near far : Graph → ℕ → ℕ) (k h : ℕ) → h ≢ f → Link g x near far rank k (label h) h → Link g x near far rank′ k (label′ h) h
@@ -61,12 +63,12 @@ module _ {g : Graph} {bound : List ℤ} {x : List ℕ} {price label rank label�
       })
 
   as-row : f < g .rows → Link g x firstEnd secondEnd rank′ 1 (label′ f) f
-  as-row d = ⊎-elim (λ o. absurd (omega (arith, o .to, l .to, net .second-from q (l .inside))))
+  as-row d = ⊎-elim (λ o. absurd (omega (arith, o .to, l .to, second-from net q (l .inside))))
       (λ o. fresh firstEnd secondEnd 1 (o .mark) (sym (o .to) ∙ l .to) (omega (arith, l .from, ap rank (o .from)))) (arc g x q (good .marks q))
 
   as-column : g .rows ≤ f → Link g x secondEnd firstEnd rank′ 0 (label′ f) f
   as-column d = ⊎-elim (λ o. fresh secondEnd firstEnd 0 (o .mark) (sym (o .to) ∙ l .to) (omega (arith, l .from, ap rank (o .from))))
-      (λ o. absurd (omega (arith, o .to, l .to, net .first-to q (l .inside)))) (arc g x q (good .marks q))
+      (λ o. absurd (omega (arith, o .to, l .to, first-to net q (l .inside)))) (arc g x q (good .marks q))
 
   -- What holds of f, and of each vertex that was labelled, holds of each that is labelled now.
   by-case : (P : ℕ → Type 0) → P f → ((h : ℕ) → h ≢ f → 0 < rank h → P h) → (h : ℕ) → 0 < rank′ h → P h
@@ -99,7 +101,8 @@ module _ {g : Graph} {bound : List ℤ} {x : List ℕ} {price label rank label�
     under = under-more;
     labels = labels-more (count + 1);
     tight = tight-more;
-    saturated = λ h d i s. by-case (λ k. g .rows ≤ k → k < vertices g → degree g x k ≡ limit bound k) (λ d i. sat d) (λ k nf s d i. tree .saturated k d i s) h s d i;
+    saturated = λ h d i s. by-case (λ k. g .rows ≤ k → k < vertices g → degree g x k ≡ limit bound k) (λ d i. sat d)
+        (λ k nf s d i. tree .saturated k d i s) h s d i;
     tally = omega (
       arith,
       tree .tally,

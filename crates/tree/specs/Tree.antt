@@ -3,20 +3,15 @@ use Prim.Native.Nat.{ℕ, _+_, _*_, _-_, _≤_, _<_}
 use mathlib.Core.Path.{_≡_}
 use mathlib.Core.Logic.{_≢_}
 use mathlib.Core.Bool.{cond}
-use mathlib.Core.List.{List, []}
+use mathlib.Core.List.{List}
 use lib.Dec.{eqb}
-use lib.IntN.{ℤ, pos, _+ℤ_}
+use lib.IntN.{ℤ, pos}
 use lib.ListN.{length, getD, set}
 use Rattle.integers.specs.Integer.{up}
-use Rattle.graph.specs.declared.Kind.the-variants.{Bipartite}
-use Rattle.graph.specs.Graph.{Graph, vertices, rowAt, columnAt, firstEnd, secondEnd}
+use Rattle.graph.specs.Limits.{mostVertices}
+use Rattle.graph.specs.Graph.{Graph, vertices, firstEnd, secondEnd}
 use Rattle.graph.specs.Subgraph.{markAt, degree}
-use Rattle.checks.specs.Checks.{graphOf}
-use Rattle.method.specs.Method.{level, value, cost, limit, Good, Labels, Tree}
-
--- The bipartite graph of the parameters.
-abbrev pub bipartite : ℕ → ℕ → List ℕ → List ℕ → List ℤ → Graph
-bipartite rows columns row column weight = graphOf Bipartite rows columns (length row) row column weight
+use Rattle.tree.specs.Method.{level, value, cost, limit, Good, Labels, Tree}
 
 -- What a list of numbers, and a list of prices or bounds, has at an index.
 abbrev pub entries : List ℕ → ℕ → ℕ
@@ -25,28 +20,11 @@ entries xs v = getD xs v 0
 abbrev pub levels : List ℤ → ℕ → ℕ
 levels price v = up (getD price v (pos 0))
 
--- What is lent to a search is as long as the graph says, and rows and columns count from 1.
-pub record Lent (g : Graph) (bound price : List ℤ) : Type 0 where
-  pub row-long : length (g .row) ≡ g .edges
-  pub column-long : length (g .column) ≡ g .edges
-  pub weight-long : length (g .weight) ≡ g .edges
-  pub bound-long : length bound ≡ vertices g
-  pub price-long : length price ≡ vertices g
-  pub from-one : (e : ℕ) → e < g .edges → (1 ≤ rowAt g e) × (1 ≤ columnAt g e)
-
--- Edge e of a bipartite graph can be read: its ends count from 1 and have prices, and no number is too large.
-pub record Readable (rows : ℕ) (row column : List ℕ) (weight price : List ℤ) (e : ℕ) : Type 0 where
-  pub row-in : e < length row
-  pub column-in : e < length column
-  pub weight-in : e < length weight
-  pub row-one : 1 ≤ getD row e 0
-  pub column-one : 1 ≤ getD column e 0
-  pub first-in : getD row e 0 - 1 < length price
-  pub second-in : rows + (getD column e 0 - 1) < length price
-  pub first-most : levels price (getD row e 0 - 1) ≤ 2 * level
-  pub second-most : levels price (rows + (getD column e 0 - 1)) ≤ 2 * level
-  pub value-least : level ≤ up (getD weight e (pos 0) +ℤ pos 2000000)
-  pub value-most : up (getD weight e (pos 0) +ℤ pos 2000000) ≤ 3 * level
+-- The prices of n vertices, one level up: from 0 to 1,000,000.
+pub record Levelled (n : ℕ) (price : List ℤ) : Type 0 where
+  pub long : length price ≡ n
+  pub least : (v : ℕ) → v < n → level ≤ levels price v
+  pub most : (v : ℕ) → v < n → levels price v ≤ 2 * level
 
 -- An edge leads from its tail to its head: from its row vertex to its column vertex if it is not chosen, and back if it is.
 abbrev pub tail : Graph → List ℕ → ℕ → ℕ
@@ -63,15 +41,9 @@ apart a b = (a - b) + (b - a)
 abbrev pub slack : Graph → (ℕ → ℕ) → ℕ → ℕ
 slack g price e = apart (cost g price e) (value g e)
 
--- Tail, head and slack of an edge of the parameters; how many columns there are does not count.
-abbrev pub tailOf : ℕ → List ℕ → List ℕ → List ℕ → ℕ → ℕ
-tailOf rows row column x = tail (bipartite rows 0 row column []) x
-
-abbrev pub headOf : ℕ → List ℕ → List ℕ → List ℕ → ℕ → ℕ
-headOf rows row column x = head (bipartite rows 0 row column []) x
-
-abbrev pub slackOf : ℕ → List ℕ → List ℕ → List ℤ → List ℤ → ℕ → ℕ
-slackOf rows row column weight price = slack (bipartite rows 0 row column weight) (levels price)
+-- What is noted for a vertex with no label, as a number from 1, is an edge.
+abbrev pub NotedInside : ℕ → (ℕ → ℕ) → (ℕ → ℕ) → Type 0
+NotedInside edges rank near = (w : ℕ) → rank w ≡ 0 → 0 < near w → near w - 1 < edges
 
 -- The edge noted for vertex w, as its number from 1, is at most as slack as q, and there is one.
 pub record Nearer (gap near : ℕ → ℕ) (w q : ℕ) : Type 0 where
@@ -97,8 +69,12 @@ pub data Noted (from to gap rank : ℕ → ℕ) (u e : ℕ) (near near′ : List
   kept : Nearer gap (entries near) (to e) e → near′ ≡ near → Noted from to gap rank u e near near′
   taken : Leads from to rank u e → (Nearer gap (entries near) (to e) e → ⊥) → near′ ≡ set near (to e) (e + 1) → Noted from to gap rank u e near near′
 
+-- The table of degrees: used v is the degree of vertex v.
+abbrev pub Degrees : Graph → List ℕ → (ℕ → ℕ) → Type 0
+Degrees g x used = (v : ℕ) → v < mostVertices → used v ≡ degree g x v
+
 -- Vertex v is a column vertex that is not saturated.
-pub record Free (rows : ℕ) (bound : List ℤ) (used : ℕ → ℕ) (v : ℕ) : Type 0 where
+pub record FreeColumn (rows : ℕ) (bound : List ℤ) (used : ℕ → ℕ) (v : ℕ) : Type 0 where
   pub column : rows ≤ v
   pub room : used v < limit bound v
 

@@ -1,29 +1,40 @@
 // The alternating tree of a search, and what is read of prices and edges.
-use graph::Kind;
-ghost use Prim.Native.Nat.{_+_, _*_, _-_, _≤_, _<_, _^_};
+use checks::Ends;
+use graph::MOST_VERTICES;
+use graph::Shape;
+ghost use Prim.Native.Nat.{_+_, _*_, _<_, _^_};
 ghost use mathlib.Core.Path.{_≡_};
+ghost use mathlib.Core.List.{[]};
 ghost use lib.IntN.{pos, _+ℤ_};
 ghost use lib.ListN.{length, getD, set, replicate};
-ghost use Rattle.integers.specs.Integer.{up};
-ghost use Rattle.method.specs.Method.{level};
-ghost use Rattle.tree.specs.Tree.{levels, Readable, tailOf, headOf, apart, slackOf};
+ghost use Rattle.integers.specs.Integer.{up, Within};
+ghost use Rattle.graph.specs.Limits.{mostVertices, greatestWeight};
+ghost use Rattle.graph.specs.Graph.{graphOf, verticesIn, firstEnd, secondEnd};
+ghost use Rattle.graph.specs.Passed.{Sound, Passed};
+ghost use Rattle.tree.specs.Method.{level, cost};
+ghost use Rattle.tree.specs.Tree.{levels, Levelled, tail, head, apart, slack};
+
+// The level stands for the price 0: prices are kept one level up, and weights two.
+pub const LEVEL: u32 = 1000000;
+
+const TWO_LEVELS: i32 = 2 * LEVEL as i32;
 
 // The search's state: the labels of the vertices, which are edges, their ranks, 0 for no label, and how many vertices are labelled.
 pub struct Tree {
-    pub label: [u32; 128],
-    pub rank: [u32; 128],
+    pub label: [u32; MOST_VERTICES],
+    pub rank: [u32; MOST_VERTICES],
     pub count: u32,
 }
 
 // The tree of the root alone.
 pub fn rooted(root: usize) -> Tree
-    requires { ⌜ root < 128 ⌝ }
-    ensures { λ t. ⌜ (t .label ≡ replicate 128 0) × (t .rank ≡ set (replicate 128 0) root 1) × (t .count ≡ 1) ⌝ }
+    requires { ⌜ root < mostVertices ⌝ }
+    ensures { λ t. ⌜ (t .label ≡ replicate mostVertices 0) × (t .rank ≡ set (replicate mostVertices 0) root 1) × (t .count ≡ 1) ⌝ }
 {
-    let mut rank = [0u32; 128];
+    let mut rank = [0u32; MOST_VERTICES];
     rank[root] = 1;
     Tree {
-        label: [0u32; 128],
+        label: [0u32; MOST_VERTICES],
         rank,
         count: 1,
     }
@@ -31,7 +42,7 @@ pub fn rooted(root: usize) -> Tree
 
 // The tree with one more label, edge e for vertex v.
 pub fn labelled(mut t: Tree, v: usize, e: u32) -> Tree
-    requires { ⌜ (v < 128) × (t .count < 128) ⌝ }
+    requires { ⌜ (v < mostVertices) × (t .count < mostVertices) ⌝ }
     ensures { λ r. ⌜ (r .label ≡ set (t .label) v e) × (r .rank ≡ set (t .rank) v (t .count + 1)) × (r .count ≡ t .count + 1) ⌝ }
 {
     let k = t.count + 1;
@@ -39,21 +50,6 @@ pub fn labelled(mut t: Tree, v: usize, e: u32) -> Tree
     t.rank[v] = k;
     t.count = k;
     t
-}
-
-// A number that is not negative, and 0 for one that is.
-fn natural_part(x: i32) -> u32
-    ensures { λ r. ⌜ r ≡ up x ⌝ }
-{
-    if x < 0 { 0 } else { integers::natural(x) }
-}
-
-// The price or bound of vertex v.
-pub fn natural_at(s: &[i32], v: usize) -> u32
-    requires { ⌜ v < length (now s) ⌝ }
-    ensures { λ r. ⌜ r ≡ levels (now (s .entry)) v ⌝ }
-{
-    natural_part(s[v])
 }
 
 // Sets the price of vertex v.
@@ -66,37 +62,55 @@ pub fn set_level(price: &mut [i32], v: usize, k: u32)
 
 // The weight of edge e, two levels up.
 pub fn value_at(weight: &[i32], e: usize) -> u32
-    requires { ⌜ e < length (now weight) ⌝ }
-    requires { ⌜ (level ≤ up (getD (now weight) e (pos 0) +ℤ pos 2000000)) × (up (getD (now weight) e (pos 0) +ℤ pos 2000000) ≤ 3 * level) ⌝ }
-    ensures { λ r. ⌜ r ≡ up (getD (now (weight .entry)) e (pos 0) +ℤ pos 2000000) ⌝ }
+    requires { ⌜ (e < length (now weight)) × Within greatestWeight (getD (now weight) e (pos 0)) ⌝ }
+    ensures { λ r. ⌜ r ≡ up (getD (now (weight .entry)) e (pos 0) +ℤ pos (2 * level)) ⌝ }
 {
-    natural_part(weight[e] + 2000000)
+    integers::natural_part(weight[e] + TWO_LEVELS)
 }
 
-// The vertex that edge e leads from.
-pub fn tail_of(rows: u32, row: &[u32], column: &[u32], chosen: &[u8], e: usize) -> usize
-    requires { ⌜ (e < length (now row)) × (e < length (now column)) × (e < length (now chosen)) ⌝ }
-    requires { ⌜ (1 ≤ getD (now row) e 0) × (1 ≤ getD (now column) e 0) ⌝ }
-    ensures { λ v. ⌜ v ≡ tailOf rows (now (row .entry)) (now (column .entry)) (now (chosen .entry)) e ⌝ }
+// The ends of edge e.
+pub fn ends_at(s: Shape, row: &[u32], column: &[u32], e: usize) -> Ends
+    requires { ⌜ Sound s (now row) (now column) ⌝ }
+    requires { ⌜ e < s .edges ⌝ }
+    ensures { λ r. ⌜ (r .first ≡ firstEnd (graphOf s (now (row .entry)) (now (column .entry)) []) e) × (r .second ≡ secondEnd (graphOf s (now (row .entry)) (now (column .entry)) []) e) ⌝ }
 {
+    checks::ends_of(s, row[e], column[e])
+}
+
+// How an edge leads: from its row vertex to its column vertex if it is not chosen, and back if it is.
+pub struct Arc {
+    pub tail: usize,
+    pub head: usize,
+}
+
+// How edge e leads.
+pub fn arc_at(s: Shape, row: &[u32], column: &[u32], chosen: &[u8], e: usize) -> Arc
+    requires { ⌜ Sound s (now row) (now column) ⌝ }
+    requires { ⌜ (e < s .edges) × (length (now chosen) ≡ s .edges) ⌝ }
+    ensures { λ a. ⌜ (a .tail ≡ tail (graphOf s (now (row .entry)) (now (column .entry)) []) (now (chosen .entry)) e) × (a .head ≡ head (graphOf s (now (row .entry)) (now (column .entry)) []) (now (chosen .entry)) e) ⌝ }
+{
+    let ends = ends_at(s, row, column, e);
     if chosen[e] == 0 {
-        checks::first_end(row[e])
+        Arc {
+            tail: ends.first,
+            head: ends.second,
+        }
     } else {
-        checks::second_end(Kind::Bipartite, rows, column[e])
+        Arc {
+            tail: ends.second,
+            head: ends.first,
+        }
     }
 }
 
-// The vertex that edge e leads to.
-pub fn head_of(rows: u32, row: &[u32], column: &[u32], chosen: &[u8], e: usize) -> usize
-    requires { ⌜ (e < length (now row)) × (e < length (now column)) × (e < length (now chosen)) ⌝ }
-    requires { ⌜ (1 ≤ getD (now row) e 0) × (1 ≤ getD (now column) e 0) ⌝ }
-    ensures { λ v. ⌜ v ≡ headOf rows (now (row .entry)) (now (column .entry)) (now (chosen .entry)) e ⌝ }
+// The prices of edge e's ends together.
+pub fn cost_at(s: Shape, row: &[u32], column: &[u32], price: &[i32], e: usize) -> u32
+    requires { ⌜ Sound s (now row) (now column) ⌝ }
+    requires { ⌜ (e < s .edges) × Levelled (verticesIn s) (now price) ⌝ }
+    ensures { λ r. ⌜ r ≡ cost (graphOf s (now (row .entry)) (now (column .entry)) []) (levels (now (price .entry))) e ⌝ }
 {
-    if chosen[e] > 0 {
-        checks::first_end(row[e])
-    } else {
-        checks::second_end(Kind::Bipartite, rows, column[e])
-    }
+    let ends = ends_at(s, row, column, e);
+    integers::natural_at(price, ends.first) + integers::natural_at(price, ends.second)
 }
 
 // By how much two numbers differ.
@@ -107,19 +121,17 @@ fn difference(a: u32, b: u32) -> u32
 }
 
 // The slack of edge e, without its sign.
-pub fn slack_of(
-    rows: u32,
+pub fn slack_at(
+    s: Shape,
     row: &[u32],
     column: &[u32],
     weight: &[i32],
     price: &[i32],
     e: usize,
 ) -> u32
-    requires { ⌜ Readable rows (now row) (now column) (now weight) (now price) e ⌝ }
-    ensures { λ r. ⌜ r ≡ slackOf rows (now (row .entry)) (now (column .entry)) (now (weight .entry)) (now (price .entry)) e ⌝ }
+    requires { ⌜ Passed (graphOf s (now row) (now column) (now weight)) ⌝ }
+    requires { ⌜ (e < s .edges) × Levelled (verticesIn s) (now price) ⌝ }
+    ensures { λ r. ⌜ r ≡ slack (graphOf s (now (row .entry)) (now (column .entry)) (now (weight .entry))) (levels (now (price .entry))) e ⌝ }
 {
-    let first = checks::first_end(row[e]);
-    let second = checks::second_end(Kind::Bipartite, rows, column[e]);
-    let cost = natural_at(price, first) + natural_at(price, second);
-    difference(cost, value_at(weight, e))
+    difference(cost_at(s, row, column, price, e), value_at(weight, e))
 }

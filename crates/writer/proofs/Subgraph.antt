@@ -1,54 +1,50 @@
 -- What `put_subgraph` writes: the text of the chosen edges, and zeros after its end.
 use mathlib.Core.Path.{_≡_, refl, sym, ap, ap₂, _∙_}
-use mathlib.Core.Bool.{cond}
 use mathlib.Core.List.{List, [], _∷_, _++_}
 use Prim.Native.Nat.{ℕ, zero, suc, _+_, _*_, _-_, _≤_, _<_}
 use native.Mathlib.Numerals.{add-one}
 use native.Mathlib.Omega.{arith}
-use lib.Dec.{eqb}
 use lib.IntN.{ℤ}
 use lib.ListN.{length, getD, replicate, length-append, length-replicate}
 use Rattle.integers.specs.Sum.{sum}
-use Rattle.graph.specs.declared.Kind.{Kind}
-use Rattle.graph.specs.declared.Kind.the-variants.{Bipartite}
-use Rattle.graph.specs.Graph.{Graph}
+use Rattle.graph.specs.declared.Shape.{Shape}
+use Rattle.graph.specs.Graph.{Graph, graphOf}
 use Rattle.graph.specs.Subgraph.{markAt}
+use Rattle.graph.specs.Passed.{Sound, MarksHold}
 use Rattle.layout.specs.Text.{decimal, spaced, unlines}
 use Rattle.layout.specs.SubgraphText.{chosenLines, headerText, subgraphText}
-use Rattle.readback.specs.Accepted.{Writable}
-use Rattle.readback.proofs.Accepted.{Small, small}
+use Rattle.readback.proofs.Accepted.{small}
 use Rattle.readback.proofs.Pieces.{unlines-append}
 use Rattle.readback.proofs.Fits.{count-le, header-le, size-line-le, length-line, length-no-line, linesAt, chosen-none, chosen-more, line-le, text-le}
-use Rattle.writer.specs.Written.{Puts, Written, edgeLines, graphOf}
+use Rattle.writer.specs.Written.{Puts, Written, edgeLines}
 use Rattle.writer.proofs.Over.{puts-none, puts-then, puts-same, over-zeros}
-
--- ---- the lines of edges do not depend on kind, sizes and weights
-
--- Edges alone.
-abbrev pub edgesOf : List ℕ → List ℕ → Graph
-edgesOf row column = graphOf Bipartite 0 0 row column []
-
-chosen-same : (g h : Graph) → g .row ≡ h .row → g .column ≡ h .column → (x : List ℕ) (n : ℕ) → chosenLines g x n ≡ chosenLines h x n
-chosen-same g h p q x zero = chosen-none g x ∙ sym (chosen-none h x)
-chosen-same g h p q x (suc n) =
-    chosen-more g x n
-    ∙ ap₂ (λ (ks : List (List ℕ)) (l : List ℕ). ks ++ cond (eqb (markAt x n) 1) (l ∷ []) []) (chosen-same g h p q x n)
-    (ap₂ (λ (r c : List ℕ). spaced (decimal (getD r n 0) ∷ decimal (getD c n 0) ∷ [])) p q)
-    ∙ sym (chosen-more h x n)
 
 -- ---- the loop over the edges
 
--- The lines of the first n edges have been written from start on.
+-- The text of the first n edges, and the two lines before it.
+abbrev pub edgeText : Graph → List ℕ → ℕ → List ℕ
+edgeText g x n = unlines (chosenLines g x n)
+
+abbrev pub headLines : Shape → ℕ → List (List ℕ)
+headLines s count = headerText (s .kind) ∷ spaced (decimal (s .rows) ∷ decimal (s .columns) ∷ decimal count ∷ []) ∷ []
+
+-- The lines of the first n edges have been written from start on. They do not depend on the shape and the weights.
 pub record Writing (row column x d : List ℕ) (start : ℕ) (l : List ℕ) (at n : ℕ) : Type 0 where
   pub within : n ≤ length row
   pub long : length l ≡ length d
   pub begun : start + 8224 ≤ length d
   pub room : at ≤ start + n * 8
-  pub puts : Puts d start (unlines (chosenLines (edgesOf row column) x n)) l at
+  pub puts : (s : Shape) (w : List ℤ) → Puts d start (edgeText (graphOf s row column w) x n) l at
 
-no-lines : (g : Graph) (x : List ℕ) → [] ≡ unlines (chosenLines g x 0)
+no-lines : (g : Graph) (x : List ℕ) → [] ≡ edgeText g x 0
 unfolding unlines
 no-lines g x = ap unlines (sym (chosen-none g x))
+
+more-lines : (g : Graph) (x : List ℕ) (n : ℕ) → edgeText g x n ++ unlines (linesAt g x n) ≡ edgeText g x (n + 1)
+more-lines g x n =
+    sym (unlines-append (chosenLines g x n) (linesAt g x n))
+    ∙ ap unlines (sym (chosen-more g x n))
+    ∙ ap (edgeText g x) (sym (add-one n))
 
 pub writing-starts : (row column x d : List ℕ) (start : ℕ) → start + 8224 ≤ length d → Writing row column x d start d start 0
 writing-starts row column x d start h = record {
@@ -56,102 +52,69 @@ writing-starts row column x d start h = record {
   long = refl;
   begun = h;
   room = omega arith;
-  puts = puts-same (puts-none d start) (no-lines (edgesOf row column) x);
+  puts = λ s w. puts-same (puts-none d start) (no-lines (graphOf s row column w) x);
 }
 
-module _ {kind : Kind} {rows columns : ℕ} {row column x : List ℕ} (w : Writable (graphOf kind rows columns row column []) x) where
-  abbrev S : Small (graphOf kind rows columns row column [])
-  S = small w
-
-  edges-small : Small (edgesOf row column)
-  edges-small = record {
-    rows-small = omega arith;
-    columns-small = omega arith;
-    edges-few = S .edges-few;
-    row-small = S .row-small;
-    column-small = S .column-small;
-  }
-
+module _ {s : Shape} {row column x : List ℕ} (S : Sound s row column) (M : MarksHold (s .edges) x) where
   pub few : length row ≤ 1024
-  few = S .edges-few
+  few = omega (arith, S .rowLong, S .sizes .few)
 
   pub marks-few : length x ≤ 1024
-  marks-few = omega (arith, few, w .marks-long)
+  marks-few = omega (arith, M .long, S .sizes .few)
 
-  module _ {d : List ℕ} {start : ℕ} {l : List ℕ} {at n : ℕ} (s : Writing row column x d start l at n) where
+  module _ {d : List ℕ} {start : ℕ} {l : List ℕ} {at n : ℕ} (W : Writing row column x d start l at n) where
     module _ (lt : n < length row) where
       pub line-room : at + 32 ≤ length l
-      line-room = omega (arith, few, s .room, s .begun, s .long)
+      line-room = omega (arith, few, W .room, W .begun, W .long)
 
       pub writing-more : {l′ : List ℕ} {at′ : ℕ} → length l′ ≡ length l
           → Puts l at (unlines (edgeLines (getD row n 0) (getD column n 0) (getD x n 0))) l′ at′ → Writing row column x d start l′ at′ (n + 1)
       writing-more {l′} {at′} long p =
-          let e : length (unlines (linesAt (edgesOf row column) x n)) ≤ 8 = line-le x edges-small n lt in
-          let r : at′ ≤ start + (n + 1) * 8 = omega (arith, p .place, s .room) in
-          let q : Puts d start (unlines (chosenLines (edgesOf row column) x n) ++ unlines (linesAt (edgesOf row column) x n)) l′ at′ =
-          puts-then (s .puts) p (omega (arith, s .puts .place, s .room, s .begun, few)) in
+          let e = line-le x (small (graphOf s row column []) S) n (omega (arith, S .rowLong)) in
           record {
             within = omega arith;
-            long = long ∙ s .long;
-            begun = s .begun;
-            room = r;
-            puts = puts-same q more;
+            long = long ∙ W .long;
+            begun = W .begun;
+            room = omega (arith, p .place, W .room);
+            puts = λ t w. puts-same (puts-then (W .puts t w) p (omega (arith, W .puts t w .place, W .room, W .begun, few)))
+                (more-lines (graphOf t row column w) x n);
           }
-        where
-          more : unlines (chosenLines (edgesOf row column) x n) ++ unlines (linesAt (edgesOf row column) x n) ≡ unlines (chosenLines (edgesOf row column) x (n + 1))
-          more =
-              sym (unlines-append (chosenLines (edgesOf row column) x n) (linesAt (edgesOf row column) x n))
-              ∙ ap unlines (sym (chosen-more (edgesOf row column) x n))
-              ∙ ap (λ (k : ℕ). unlines (chosenLines (edgesOf row column) x k)) (sym (add-one n))
 
-    pub writing-ends : length row ≤ n → Puts d start (unlines (chosenLines (edgesOf row column) x (length row))) l at
-    writing-ends le =
-        let e : n ≡ length row = omega (arith, s .within) in
-        puts-same (s .puts) (ap (λ (k : ℕ). unlines (chosenLines (edgesOf row column) x k)) e)
+    pub writing-ends : length row ≤ n → (w : List ℤ) → Puts d start (edgeText (graphOf s row column w) x (s .edges)) l at
+    writing-ends le w =
+        let e : n ≡ s .edges = omega (arith, W .within, S .rowLong) in
+        puts-same (W .puts s w) (ap (edgeText (graphOf s row column w) x) e)
 
   -- ---- the whole text
 
   module _ (z : List ℕ) {d : List ℕ} {count start : ℕ} (long : length z ≡ 16384) (counted : count ≡ sum (length x) (markAt x))
-      (p : Puts (replicate (length z) 0) 0 (unlines (headerText kind ∷ spaced (decimal rows ∷ decimal columns ∷ decimal count ∷ []) ∷ [])) d start) where
-    count-few : count ≤ 1024
-    count-few =
-        let e : count ≡ sum (length row) (markAt x) = counted ∙ ap (λ (k : ℕ). sum k (markAt x)) (w .marks-long) in
-        omega (arith, few, count-le w)
+      (p : Puts (replicate (length z) 0) 0 (unlines (headLines s count)) d start) where
+    count-is : count ≡ sum (s .edges) (markAt x)
+    count-is = counted ∙ ap (λ (k : ℕ). sum k (markAt x)) (M .long)
 
     pub head-room : length d ≡ length z → start + 8224 ≤ length d
     head-room same =
+        let sizes = spaced (decimal (s .rows) ∷ decimal (s .columns) ∷ decimal count ∷ []) in
+        let k : count ≤ 1024 = omega (arith, count-is, S .sizes .few, count-le M) in
         omega (
           arith,
           p .place,
-          length-line (headerText kind) (spaced (decimal rows ∷ decimal columns ∷ decimal count ∷ []) ∷ []),
-          length-line (spaced (decimal rows ∷ decimal columns ∷ decimal count ∷ [])) [],
+          length-line (headerText (s .kind)) (sizes ∷ []),
+          length-line sizes [],
           length-no-line,
-          header-le kind,
-          size-line-le rows columns count (S .rows-small) (S .columns-small) count-few,
+          header-le (s .kind),
+          size-line-le (s .rows) (s .columns) count (S .sizes .rows .greatest) (S .sizes .columns .greatest) k,
         )
 
-    module _ {l : List ℕ} {at : ℕ} (q : Puts d start (unlines (chosenLines (edgesOf row column) x (length row))) l at) (v : List ℤ) where
+    module _ (w : List ℤ) {l : List ℕ} {at : ℕ} (q : Puts d start (edgeText (graphOf s row column w) x (s .edges)) l at) where
       abbrev G : Graph
-      G = graphOf kind rows columns row column v
+      G = graphOf s row column w
 
-      writable : Writable G x
-      writable = record {
-        row-long = w .row-long;
-        column-long = w .column-long;
-        marks-long = w .marks-long;
-        sizes = w .sizes;
-        ends = w .ends;
-        marks = w .marks;
-      }
-
-      text-is : unlines (headerText kind ∷ spaced (decimal rows ∷ decimal columns ∷ decimal count ∷ []) ∷ [])
-          ++ unlines (chosenLines (edgesOf row column) x (length row)) ≡ subgraphText G x
+      text-is : unlines (headLines s count) ++ edgeText G x (s .edges) ≡ subgraphText G x
       unfolding subgraphText
       text-is =
-          sym (unlines-append (headerText kind ∷ spaced (decimal rows ∷ decimal columns ∷ decimal count ∷ []) ∷ [])
-          (chosenLines (edgesOf row column) x (length row)))
-          ∙ ap₂ (λ (n : ℕ) (ls : List (List ℕ)). unlines (headerText kind ∷ spaced (decimal rows ∷ decimal columns ∷ decimal n ∷ []) ∷ ls))
-          (counted ∙ ap (λ (k : ℕ). sum k (markAt x)) (w .marks-long)) (chosen-same (edgesOf row column) G refl refl x (length row))
+          sym (unlines-append (headLines s count) (chosenLines G x (s .edges)))
+          ∙ ap (λ (n : ℕ). unlines (headLines s n ++ chosenLines G x (s .edges))) count-is
 
       whole : Puts (replicate (length z) 0) 0 (subgraphText G x) l at
       whole =
@@ -160,10 +123,9 @@ module _ {kind : Kind} {rows columns : ℕ} {row column x : List ℕ} (w : Writa
           (omega (
             arith,
             length-replicate {A = ℕ} (length z) 0,
-            text-le writable,
+            text-le G x S M,
             ap length text-is,
-            length-append (unlines (headerText kind ∷ spaced (decimal rows ∷ decimal columns ∷ decimal count ∷ []) ∷ []))
-                (unlines (chosenLines (edgesOf row column) x (length row))),
+            length-append (unlines (headLines s count)) (edgeText G x (s .edges)),
           )))
           text-is
 

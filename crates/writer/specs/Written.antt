@@ -4,9 +4,8 @@ use mathlib.Core.Path.{_≡_}
 use mathlib.Core.Bool.{cond}
 use mathlib.Core.List.{List, [], _∷_, _++_}
 use lib.Dec.{eqb}
-use lib.IntN.{ℤ}
 use lib.ListN.{length, take, drop}
-use Rattle.graph.specs.declared.Kind.{Kind}
+use Rattle.graph.specs.Limits.{subgraphBytes}
 use Rattle.graph.specs.Refusal.{filled}
 use Rattle.graph.specs.Graph.{Graph}
 use Rattle.layout.specs.Text.{decimal, spaced}
@@ -25,19 +24,7 @@ pub record Puts (d : List ℕ) (at : ℕ) (xs after : List ℕ) (e : ℕ) : Type
 abbrev pub edgeLines : ℕ → ℕ → ℕ → List (List ℕ)
 edgeLines row column mark = cond (eqb mark 1) (spaced (decimal row ∷ decimal column ∷ []) ∷ []) []
 
--- The graph that is passed, with the edges whose rows and columns are lent.
-abbrev pub graphOf : Kind → ℕ → ℕ → List ℕ → List ℕ → List ℤ → Graph
-graphOf kind rows columns row column weight = record {
-  kind = kind;
-  rows = rows;
-  columns = columns;
-  edges = length row;
-  row = row;
-  column = column;
-  weight = weight;
-}
-
 -- The text of marks fills an output of 16,384 bytes, 0 after its end, and r is its length.
 pub record Written (g : Graph) (x after : List ℕ) (r : ℕ) : Type 0 where
-  pub text : after ≡ filled 16384 0 (subgraphText g x)
+  pub text : after ≡ filled subgraphBytes 0 (subgraphText g x)
   pub size : r ≡ length (subgraphText g x)

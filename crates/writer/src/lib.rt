@@ -1,16 +1,19 @@
 // Writes a subgraph (plan) as a Matrix Market text.
 use graph::Kind;
+use graph::Shape;
 ghost use mathlib.Core.Path.{_≡_};
 ghost use mathlib.Core.List.{List, [], _∷_};
 ghost use Prim.Native.Nat.{_+_, _≤_};
 ghost use lib.IntN.{ℤ};
 ghost use lib.ListN.{length, replicate};
 ghost use Rattle.integers.specs.Sum.{sum};
+ghost use Rattle.graph.specs.Limits.{mostEdges, subgraphBytes};
+ghost use Rattle.graph.specs.Graph.{graphOf};
 ghost use Rattle.graph.specs.Subgraph.{markAt};
+ghost use Rattle.graph.specs.Passed.{Sound, MarksHold};
 ghost use Rattle.layout.specs.Text.{decimal, spaced, unlines};
 ghost use Rattle.layout.specs.SubgraphText.{headerText};
-ghost use Rattle.readback.specs.Accepted.{Writable};
-ghost use Rattle.writer.specs.Written.{Puts, Written, edgeLines, graphOf};
+ghost use Rattle.writer.specs.Written.{Puts, Written, edgeLines};
 
 // Writes the digits of n at the start of `out`, with no leading zero. The result is their number.
 pub fn put_number(out: &mut [u8], n: u64) -> usize
@@ -82,13 +85,14 @@ fn put_header(out: &mut [u8], kind: Kind) -> usize
 }
 
 // Clears `out`, and writes the header line and the size line at its start. The result is the place after them.
-fn put_head(out: &mut [u8], kind: Kind, rows: u32, columns: u32, count: u32) -> usize
+fn put_head(out: &mut [u8], s: Shape, count: u32) -> usize
     requires { ⌜ 128 ≤ length (now out) ⌝ }
-    ensures { λ r. ⌜ Puts (replicate (length (now (out .entry))) 0) 0 (unlines (headerText kind ∷ spaced (decimal rows ∷ decimal columns ∷ decimal count ∷ []) ∷ [])) (now (out .exit)) r ⌝ }
+    ensures { λ r. ⌜ Puts (replicate (length (now (out .entry))) 0) 0 (unlines (headerText (s .kind) ∷ spaced (decimal (s .rows) ∷ decimal (s .columns) ∷ decimal count ∷ []) ∷ [])) (now (out .exit)) r ⌝ }
 {
-    outputs::clear_bytes(out);
+    lent::clear_bytes(out);
+    let kind = s.kind;
     let at = put_header(out, kind);
-    put_sizes(out, at, rows, columns, count)
+    put_sizes(out, at, s.rows, s.columns, count)
 }
 
 // Writes the line of an edge from `at` on if its mark is 1. The result is the place after it.
@@ -105,7 +109,7 @@ fn put_edge(out: &mut [u8], at: usize, row: u32, column: u32, mark: u8) -> usize
 
 // The number of chosen edges.
 fn count_chosen(chosen: &[u8]) -> u32
-    requires { ⌜ length (now chosen) ≤ 1024 ⌝ }
+    requires { ⌜ length (now chosen) ≤ mostEdges ⌝ }
     ensures { λ r. ⌜ r ≡ sum (length (now (chosen .entry))) (markAt (now (chosen .entry))) ⌝ }
 {
     let mut count = 0;
@@ -119,20 +123,12 @@ fn count_chosen(chosen: &[u8]) -> u32
 
 // Writes the text of the chosen edges to `out`, 0 after its end. The result is its length. The tests have been made; weights are not written, so
 // that the text is the same whatever they are.
-pub fn put_subgraph(
-    out: &mut [u8],
-    kind: Kind,
-    rows: u32,
-    columns: u32,
-    row: &[u32],
-    column: &[u32],
-    chosen: &[u8],
-) -> usize
-    requires { ⌜ length (now out) ≡ 16384 ⌝ }
-    requires { ⌜ Writable (graphOf kind rows columns (now row) (now column) []) (now chosen) ⌝ }
-    ensures { λ r. ⌜ ((w : List ℤ) → Written (graphOf kind rows columns (now (row .entry)) (now (column .entry)) w) (now (chosen .entry)) (now (out .exit)) r) ⌝ }
+pub fn put_subgraph(out: &mut [u8], s: Shape, row: &[u32], column: &[u32], chosen: &[u8]) -> usize
+    requires { ⌜ length (now out) ≡ subgraphBytes ⌝ }
+    requires { ⌜ Sound s (now row) (now column) × MarksHold (s .edges) (now chosen) ⌝ }
+    ensures { λ r. ⌜ ((w : List ℤ) → Written (graphOf s (now (row .entry)) (now (column .entry)) w) (now (chosen .entry)) (now (out .exit)) r) ⌝ }
 {
-    let mut at = put_head(out, kind, rows, columns, count_chosen(chosen));
+    let mut at = put_head(out, s, count_chosen(chosen));
     let mut e = 0;
     while e < row.len() {
         at = put_edge(out, at, row[e], column[e], chosen[e]);

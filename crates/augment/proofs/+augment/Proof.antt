@@ -28,7 +28,7 @@ augment-returns : (t : ℕ) → augment-lts.Need-returns (
   augment-below t,
   augment.Post,
 ) (augment-at t) augment.Post
-augment-returns t c = λ g r. Step.at-root r (c .if1 .taken)
+augment-returns t c = Step.at-root (c .before .before .before .before .before .before .pre .1) (c .if1 .taken)
 
 augment-mul-e : (t : ℕ) → augment-lts.Need-mul-e (
   flip-reads.Asked,
@@ -36,7 +36,7 @@ augment-mul-e : (t : ℕ) → augment-lts.Need-mul-e (
   augment-below t,
   augment.Post,
 ) (augment-at t) augment.Post
-augment-mul-e t c = omega (arith, (c .before .before .before .before .before .before .pre .1 .1) .inside, (c .before .before .before .before .before .before .pre .1 .1) .label-long)
+augment-mul-e t c = let w = c .before .before .before .before .before .before .pre .1 in omega (arith, w .inside, w .label-long)
 
 augment-shared-slice-read-e : (t : ℕ) → augment-lts.Need-shared-slice-read-e (
   flip-reads.Asked,
@@ -44,7 +44,7 @@ augment-shared-slice-read-e : (t : ℕ) → augment-lts.Need-shared-slice-read-e
   augment-below t,
   augment.Post,
 ) (augment-at t) augment.Post
-augment-shared-slice-read-e t c = omega (arith, (c .before .before .before .before .before .before .before .pre .1 .1) .inside, (c .before .before .before .before .before .before .before .pre .1 .1) .label-long)
+augment-shared-slice-read-e t c = let w = c .before .before .before .before .before .before .before .pre .1 in omega (arith, w .inside, w .label-long)
 
 augment-cast-e : (t : ℕ) → augment-lts.Need-cast-e (
   flip-reads.Asked,
@@ -52,7 +52,9 @@ augment-cast-e : (t : ℕ) → augment-lts.Need-cast-e (
   augment-below t,
   augment.Post,
 ) (augment-at t) augment.Post
-augment-cast-e t c = omega (arith, c .shared-slice-known5 .given (c .before .before .before .before .before .before .before .args .v))
+augment-cast-e t c =
+    let args = c .before .before .before .before .before .before .before .args in
+    omega (arith, c .shared-slice-known5 .given (args .v))
 
 augment-flip-requires : (t : ℕ) → augment-lts.Need-flip-requires (
   flip-reads.Asked,
@@ -60,7 +62,9 @@ augment-flip-requires : (t : ℕ) → augment-lts.Need-flip-requires (
   augment-below t,
   augment.Post,
 ) (augment-at t) augment.Post
-augment-flip-requires t c κs = Step.flips (c .before .before .before .before .before .before .before .before .pre .1 .1) (c .before .before .if1 .left)
+augment-flip-requires t c κs =
+    let if1 = c .before .before .if1 in
+    let w = c .before .before .before .before .before .before .before .before .pre .1 in (w .sound, (Step.edge-in w (if1 .left), w .long))
 
 augment-augment-requires : (t : ℕ) → augment-lts.Need-augment-requires (
   flip-reads.Asked,
@@ -68,7 +72,14 @@ augment-augment-requires : (t : ℕ) → augment-lts.Need-augment-requires (
   augment-below t,
   augment.Post,
 ) (augment-at t) augment.Post
-augment-augment-requires t c κs = (omega (arith, Step.falls (c .before .before .before .before .before .before .before .before .before .before .before .before .pre .1 .1) (c .before .before .before .before .before .before .if1 .left) (c .before .before .before .flip .ensures), c .before .before .before .before .before .before .before .before .before .before .before .before .pre .0), (c .before .before .before .before .before .before .before .before .before .before .before .before .pre .1 .0, Step.goes-on (c .before .before .before .before .before .before .before .before .before .before .before .before .pre .1 .1) (c .before .before .before .before .before .before .if1 .left) (c .before .before .before .flip .ensures)))
+augment-augment-requires t c κs =
+    let at-flip = c .before .before .before in
+    let at-if1 = at-flip .before .before .before in
+    let pre = at-if1 .before .before .before .before .before .before .pre in
+    let w = pre .1 in
+    let away = at-if1 .if1 .left in
+    let flipped = at-flip .flip .ensures in
+    (omega (arith, Step.falls w away flipped, pre .0), Step.goes-on w away flipped)
 
 augment-same-length : (t : ℕ) → augment-lts.Need-same-length (
   flip-reads.Asked,
@@ -76,7 +87,10 @@ augment-same-length : (t : ℕ) → augment-lts.Need-same-length (
   augment-below t,
   augment.Post,
 ) (augment-at t) augment.Post
-augment-same-length t c = c .before .before .augment .kept .0 ∙ c .before .before .before .before .before .before .flip .kept .0
+augment-same-length t c =
+    let the-augment = c .before .before .augment in
+    let flip = c .before .before .before .before .before .before .flip in
+    the-augment .kept .0 ∙ flip .kept .0
 
 augment-returns-2 : (t : ℕ) → augment-lts.Need-returns-2 (
   flip-reads.Asked,
@@ -84,7 +98,12 @@ augment-returns-2 : (t : ℕ) → augment-lts.Need-returns-2 (
   augment-below t,
   augment.Post,
 ) (augment-at t) augment.Post
-augment-returns-2 t c = λ g r. Step.whole r (c .before .before .before .before .before .before .before .before .before .if1 .left) (c .before .before .before .before .before .before .flip .ensures) (c .before .before .augment .ensures g (Step.goes-on r (c .before .before .before .before .before .before .before .before .before .if1 .left) (c .before .before .before .before .before .before .flip .ensures)))
+augment-returns-2 t c =
+    let the-augment = c .before .before .augment in
+    let at-flip = c .before .before .before .before .before .before in
+    let at-if1 = at-flip .before .before .before in
+    let pre = at-if1 .before .before .before .before .before .before .pre in
+    Step.whole (pre .1) (at-if1 .if1 .left) (at-flip .flip .ensures) (the-augment .ensures)
 
 pub +augment-spec : {M : Type 1} → statement M
 +augment-spec = close μ-augment λ t. augment-lts.spec (

@@ -4,68 +4,27 @@ use native.Mathlib.Omega.{arith}
 use borrow.Author.Needs.{needs}
 use Rattle.augment.proofs.flip.Statement.{statement}
 use Rattle.augment.proofs.flip.Tie as tie
-
-slice-write-chosen : tie.Need-slice-write-chosen
-slice-write-chosen c = search needs
-
-mul-result : tie.Need-mul-result
-mul-result c = search needs
-
-shared-slice-read-result : tie.Need-shared-slice-read-result
-shared-slice-read-result c = search needs
-
-sub-result : tie.Need-sub-result
-sub-result c = search needs
-
-cast-result : tie.Need-cast-result
-cast-result c = omega (arith, c .shared-slice-known .given (c .before .before .args .e))
-
-add-result : tie.Need-add-result
-add-result c = omega (arith, c .shared-slice-known .given (c .before .before .args .e))
-
-same-length : tie.Need-same-length
-same-length c = search needs
+use Rattle.tree.proofs.ends_at.Reads as ends-at-reads
 
 returns : tie.Need-returns
-returns c = record { from-row = λ l. (refl, refl); from-column = λ l. absurd (omega arith) }
-
-slice-write-chosen-2 : tie.Need-slice-write-chosen-2
-slice-write-chosen-2 c = search needs
-
-mul-result-2 : tie.Need-mul-result-2
-mul-result-2 c = search needs
-
-shared-slice-read-result-2 : tie.Need-shared-slice-read-result-2
-shared-slice-read-result-2 c = search needs
-
-sub-result-2 : tie.Need-sub-result-2
-sub-result-2 c = search needs
-
-cast-result-2 : tie.Need-cast-result-2
-cast-result-2 c = omega (arith, c .shared-slice-known2 .given (c .before .before .args .e))
-
-same-length-2 : tie.Need-same-length-2
-same-length-2 c = search needs
+returns c =
+    let ends-at = c .before .before .ends-at in
+    record { from-row = λ l. (refl, ends-at .ensures .1); from-column = λ l. absurd (omega (arith, c .if1 .taken)) }
 
 returns-2 : tie.Need-returns-2
-returns-2 c = record { from-row = λ l. absurd (omega arith); from-column = λ l. (refl, refl) }
+returns-2 c =
+    let ends-at = c .before .before .ends-at in
+    record { from-row = λ l. absurd (omega (arith, c .if1 .left)); from-column = λ l. (refl, ends-at .ensures .0) }
 
 pub flip-spec : {M : Type 1} → statement M
 flip-spec =
     tie.close
     (tie.spec
-    slice-write-chosen
-    mul-result
-    shared-slice-read-result
-    sub-result
-    cast-result
-    add-result
-    same-length
+    (λ c κs. search needs)
+    (λ c. search needs)
+    (λ c. search needs)
+    (λ c. search needs)
     returns
-    slice-write-chosen-2
-    mul-result-2
-    shared-slice-read-result-2
-    sub-result-2
-    cast-result-2
-    same-length-2
+    (λ c. search needs)
+    (λ c. search needs)
     returns-2)

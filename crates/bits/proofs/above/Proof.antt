@@ -9,16 +9,16 @@ use borrow.Author.Needs.{needs}
 use Rattle.bits.proofs.above.Statement.{statement}
 use Rattle.bits.proofs.above.Tie as tie
 
-shr-result : tie.Need-shr-result
-shr-result c = search needs
-
 returns : tie.Need-returns
-returns c = sym (some-above (c .before .args .word) (c .before .args .k) (c .before .fits .word .fits) (c .if1 .taken))
+returns c =
+    let start = c .before in
+    sym (some-above (start .args .word) (start .args .k) (start .fits .word .fits) (c .if1 .taken))
 
 returns-2 : tie.Need-returns-2
 returns-2 c =
-    let e : 64 - c .before .args .k ≡ 0 = omega arith in
-    sym (ap (λ n. some? n (λ j. bitOf (c .before .args .word) (c .before .args .k + j))) e)
+    let args = c .before .args in
+    let e : 64 - args .k ≡ 0 = omega arith in
+    sym (ap (λ n. some? n (λ j. bitOf (args .word) (args .k + j))) e)
 
 pub above-spec : {M : Type 1} → statement M
-above-spec = tie.close (tie.spec shr-result returns returns-2)
+above-spec = tie.close (tie.spec (λ c. search needs) returns returns-2)

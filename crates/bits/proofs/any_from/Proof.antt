@@ -15,32 +15,19 @@ abbrev μ-loop : tie.MeasureT-loop
 loop-holds : tie.Need-loop-holds Inv-loop μ-loop
 loop-holds c = clear-none
 
-add-above : tie.Need-add-above Inv-loop μ-loop
-add-above c = omega arith
-
-mul-above : tie.Need-mul-above Inv-loop μ-loop
-mul-above c = omega arith
-
-shared-slice-read-above : tie.Need-shared-slice-read-above Inv-loop μ-loop
-shared-slice-read-above c = omega arith
-
-left-requires : tie.Need-left-requires Inv-loop μ-loop
-left-requires c κs = omega arith
-
-above-requires : tie.Need-above-requires Inv-loop μ-loop
-above-requires c κs = tt
-
 returns : tie.Need-returns Inv-loop μ-loop
-returns c = clear-found (c .before .before .before .before .before .loop .inv) refl (c .before .before .left .ensures) (c .before .before .before .before .loop-test .taken) (sym (c .if1 .taken) ∙ c .before .above .ensures)
-
-add-i : tie.Need-add-i Inv-loop μ-loop
-add-i c = omega arith
-
-loop-less : tie.Need-loop-less Inv-loop μ-loop
-loop-less c = omega arith
+returns c =
+    let left = c .before .before .left in
+    let at-loop-test = c .before .before .before .before in
+    let inv = at-loop-test .before .loop .inv in
+    clear-found inv refl (left .ensures) (at-loop-test .loop-test .taken) (sym (c .if1 .taken) ∙ c .before .above .ensures)
 
 loop-again : tie.Need-loop-again Inv-loop μ-loop
-loop-again c = clear-more (c .before .before .before .before .before .loop .inv) refl (c .before .before .left .ensures) (c .before .before .before .before .loop-test .taken) (sym (c .if1 .left) ∙ c .before .above .ensures)
+loop-again c =
+    let left = c .before .before .left in
+    let at-loop-test = c .before .before .before .before in
+    let inv = at-loop-test .before .loop .inv in
+    clear-more inv refl (left .ensures) (at-loop-test .loop-test .taken) (sym (c .if1 .left) ∙ c .before .above .ensures)
 
 returns-2 : tie.Need-returns-2 Inv-loop μ-loop
 returns-2 c = clear-all (c .before .loop .inv) (c .loop-test .left)
@@ -52,13 +39,13 @@ any-from-spec =
     Inv-loop
     μ-loop
     loop-holds
-    add-above
-    mul-above
-    shared-slice-read-above
-    left-requires
-    above-requires
+    (λ c. omega arith)
+    (λ c. omega arith)
+    (λ c. omega arith)
+    (λ c κs. omega arith)
+    (λ c κs. tt)
     returns
-    add-i
-    loop-less
+    (λ c. omega arith)
+    (λ c. omega arith)
     loop-again
     returns-2)

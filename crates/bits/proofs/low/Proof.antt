@@ -10,9 +10,6 @@ use borrow.Author.Needs.{needs}
 use Rattle.bits.proofs.low.Statement.{statement}
 use Rattle.bits.proofs.low.Tie as tie
 
-shl-result : tie.Need-shl-result
-shl-result c = search needs
-
 sub-result : tie.Need-sub-result
 sub-result c =
     let k = c .before .args .k in
@@ -20,14 +17,16 @@ sub-result c =
 
 returns : tie.Need-returns
 returns c =
-    let k = c .before .args .k in
-    ap (λ m. bitAnd (c .before .args .word) (m - 1)) (shl-exact {a = 1} 1 k 64 (lit< tt) (omega arith) ∙ one-mul (2 ^ k))
-    ∙ and-mask (c .before .args .word) k
+    let args = c .before .args in
+    let k = args .k in
+    ap (λ m. bitAnd (args .word) (m - 1)) (shl-exact {a = 1} 1 k 64 (lit< tt) (omega arith) ∙ one-mul (2 ^ k))
+    ∙ and-mask (args .word) k
 
 returns-2 : tie.Need-returns-2
 returns-2 c =
-    let h : 64 ≤ c .before .args .k = omega arith in
-    sym (mod-eq-of-lt (lt-of-lt-of-le (c .before .fits .word .fits) (pow-mono h)))
+    let start = c .before in
+    let h : 64 ≤ start .args .k = omega arith in
+    sym (mod-eq-of-lt (lt-of-lt-of-le (start .fits .word .fits) (pow-mono h)))
 
 pub low-spec : {M : Type 1} → statement M
-low-spec = tie.close (tie.spec shl-result sub-result returns returns-2)
+low-spec = tie.close (tie.spec (λ c. search needs) sub-result returns returns-2)

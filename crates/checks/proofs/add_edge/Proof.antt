@@ -5,47 +5,37 @@ use Rattle.checks.proofs.Counting.{add-at-most, grown}
 use Rattle.checks.proofs.add_edge.Statement.{statement}
 use Rattle.checks.proofs.add_edge.Tie as tie
 
-mul-degree : tie.Need-mul-degree
-mul-degree c = search needs
-
-slice-read-degree : tie.Need-slice-read-degree
-slice-read-degree c = search needs
-
 add-degree : tie.Need-add-degree
-add-degree c = omega (arith, c .before .pre .1 (c .before .args .first) (c .before .pre .0 .1))
-
-slice-write-degree : tie.Need-slice-write-degree
-slice-write-degree c = search needs
-
-mul-degree-2 : tie.Need-mul-degree-2
-mul-degree-2 c = search needs
-
-slice-read-degree-2 : tie.Need-slice-read-degree-2
-slice-read-degree-2 c = search needs
+add-degree c =
+    let start = c .before in
+    omega (arith, start .pre .1 (start .args .ends .first) (start .pre .0 .1))
 
 add-degree-2 : tie.Need-add-degree-2
-add-degree-2 c = omega (arith, add-at-most (c .before .before .args .degree .now) (c .before .before .args .first) (c .before .before .args .mark) (c .before .before .args .second) (search needs), c .before .before .pre .1 (c .before .before .args .second) (c .before .before .pre .0 .2))
-
-slice-write-degree-2 : tie.Need-slice-write-degree-2
-slice-write-degree-2 c = search needs
-
-same-length : tie.Need-same-length
-same-length c = search needs
+add-degree-2 c =
+    let start = c .before .before in
+    omega (
+      arith,
+      add-at-most (start .args .degree .now) (start .args .ends .first) (start .args .mark) (start .args .ends .second) (search needs),
+      start .pre .1 (start .args .ends .second) (start .pre .0 .2),
+    )
 
 returns : tie.Need-returns
-returns c = grown (c .before .before .args .degree .now) (c .before .before .args .first) (c .before .before .args .second) (c .before .before .args .mark) (c .before .before .pre .0 .0) (c .before .before .pre .0 .1) (c .before .before .pre .0 .2)
+returns c =
+    let start = c .before .before in
+    grown (start .args .degree .now) (start .args .ends .first) (start .args .ends .second) (start .args .mark) (start .pre .0 .0) (start .pre .0 .1)
+    (start .pre .0 .2)
 
 pub add-edge-spec : {M : Type 1} → statement M
 add-edge-spec =
     tie.close
     (tie.spec
-    mul-degree
-    slice-read-degree
+    (λ c. search needs)
+    (λ c. search needs)
     add-degree
-    slice-write-degree
-    mul-degree-2
-    slice-read-degree-2
+    (λ c. search needs)
+    (λ c. search needs)
+    (λ c. search needs)
     add-degree-2
-    slice-write-degree-2
-    same-length
+    (λ c. search needs)
+    (λ c. search needs)
     returns)

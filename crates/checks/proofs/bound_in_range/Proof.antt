@@ -7,11 +7,10 @@ use Rattle.graph.specs.Graph.{boundInRange}
 use Rattle.checks.proofs.bound_in_range.Statement.{statement}
 use Rattle.checks.proofs.bound_in_range.Tie as tie
 
-in-range-requires : tie.Need-in-range-requires
-in-range-requires c κs = search needs
-
 returns : tie.Need-returns
-returns c = c .in-range .ensures ∙ ap boundInRange (back w32 (c .before .args .x) (c .before .fits .x .sfits))
+returns c =
+    let start = c .before in
+    c .in-range .ensures ∙ ap boundInRange (back w32 (start .args .x) (start .fits .x .sfits))
 
 pub bound-in-range-spec : {M : Type 1} → statement M
-bound-in-range-spec = tie.close (tie.spec in-range-requires returns)
+bound-in-range-spec = tie.close (tie.spec (λ c κs. search needs) returns)

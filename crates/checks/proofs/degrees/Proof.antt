@@ -1,18 +1,19 @@
 -- The loop keeps: each degree counts the edges before e.
 use Prim.Native.Nat.{_-_}
 use mathlib.Core.Path.{refl, sym}
+use mathlib.Core.List.{[]}
 use native.Mathlib.Omega.{arith}
 use lib.ListN.{length, getD-replicate}
-use Rattle.checks.specs.Checks.{unweighted}
+use Rattle.graph.specs.Graph.{graphOf}
 use Rattle.checks.proofs.Counting.{Counted, counted-none, counted-small, counted-more, counted-all}
 use Rattle.checks.proofs.degrees.Statement.{statement}
 use Rattle.checks.proofs.degrees.Tie as tie
 
 abbrev Inv-loop : tie.InvT-loop
-Inv-loop kind rows columns row column chosen degree₀ e₀ degree e = Counted (unweighted kind rows columns row column) chosen degree e
+Inv-loop s row column chosen degree₀ e₀ degree e = Counted (graphOf s row column []) chosen degree e
 
 abbrev μ-loop : tie.MeasureT-loop
-μ-loop kind rows columns row column chosen degree₀ e₀ degree e = length row - e
+μ-loop s row column chosen degree₀ e₀ degree e = length row - e
 
 loop-holds : tie.Need-loop-holds Inv-loop μ-loop
 loop-holds c = counted-none refl (λ v l. getD-replicate 128 v 0 0 l)
@@ -20,41 +21,49 @@ loop-holds c = counted-none refl (λ v l. getD-replicate 128 v 0 0 l)
 slice-aggregate-add-edge : tie.Need-slice-aggregate-add-edge Inv-loop μ-loop
 slice-aggregate-add-edge c = sym (c .before .before .loop .inv .long)
 
-mul-first-end : tie.Need-mul-first-end Inv-loop μ-loop
-mul-first-end c = omega arith
+shared-slice-read-ends-of-2 : tie.Need-shared-slice-read-ends-of-2 Inv-loop μ-loop
+shared-slice-read-ends-of-2 c =
+    let pre = c .before .before .before .before .before .before .before .before .pre in
+    omega (arith, pre .0 .rowLong, pre .0 .columnLong)
 
-shared-slice-read-first-end : tie.Need-shared-slice-read-first-end Inv-loop μ-loop
-shared-slice-read-first-end c = omega arith
-
-first-end-requires : tie.Need-first-end-requires Inv-loop μ-loop
-first-end-requires c κs = c .before .before .before .before .before .before .before .pre .0 .rows (c .before .before .before .loop .e) (c .before .before .loop-test .taken)
-
-mul-second-end : tie.Need-mul-second-end Inv-loop μ-loop
-mul-second-end c = omega arith
-
-shared-slice-read-second-end : tie.Need-shared-slice-read-second-end Inv-loop μ-loop
-shared-slice-read-second-end c = omega arith
-
-second-end-requires : tie.Need-second-end-requires Inv-loop μ-loop
-second-end-requires c κs = c .before .before .before .before .before .before .before .before .before .pre .0 .columns (c .before .before .before .before .before .loop .e) (c .before .before .before .before .loop-test .taken)
+ends-of-requires : tie.Need-ends-of-requires Inv-loop μ-loop
+ends-of-requires c κs =
+    let at-loop = c .before .before .before .before in
+    let S = at-loop .before .before .before .before .pre .0 in
+    let E = S .ends (at-loop .loop .e) (omega (arith, S .rowLong)) in
+    (E .row .least, E .column .least)
 
 shared-slice-read-add-edge : tie.Need-shared-slice-read-add-edge Inv-loop μ-loop
-shared-slice-read-add-edge c = omega arith
+shared-slice-read-add-edge c =
+    let pre = c .before .before .before .before .before .before .before .before .before .before .pre in
+    omega (arith, pre .0 .rowLong, pre .1 .long)
 
 add-edge-requires : tie.Need-add-edge-requires Inv-loop μ-loop
-add-edge-requires c κs = let C = c .before .before .before .before .before .before .before .before .before .before .before .pre .0 in let L = c .before .before .before .before .before .before .before .loop in let t = c .before .before .before .before .before .before .loop-test .taken in ((L .inv .long, omega (arith, c .before .before .before .first-end .ensures, C .first (L .e) t), omega (arith, c .before .second-end .ensures, C .second (L .e) t)), λ v b. omega (arith, counted-small (L .inv) v b (λ k l. c .before .before .before .before .before .before .before .before .before .before .before .pre .1 .1 k (omega arith)), C .few, L .inv .within))
-
-add-e : tie.Need-add-e Inv-loop μ-loop
-add-e c = omega arith
-
-loop-less : tie.Need-loop-less Inv-loop μ-loop
-loop-less c = omega arith
+add-edge-requires c κs =
+    let pre = c .before .before .before .before .before .before .before .before .before .before .pre in
+    let S = pre .0 in
+    let L = c .before .before .before .before .before .before .loop in
+    let E = S .ends (L .e) (omega (arith, S .rowLong)) in
+    let ends = c .before .ends-of .ensures in (
+      (L .inv .long, omega (arith, ends .0, E .first, S .sizes .order), omega (arith, ends .1, E .second, S .sizes .order)),
+      λ v b. omega (arith, counted-small (L .inv) v b (pre .1 .each), S .sizes .few, L .inv .within),
+    )
 
 loop-again : tie.Need-loop-again Inv-loop μ-loop
-loop-again c = counted-more (c .before .before .before .before .before .before .before .before .before .loop .inv) (c .before .before .before .before .before .before .before .before .loop-test .taken) (c .before .add-edge .kept .0) refl (sym (c .before .before .before .before .before .first-end .ensures)) (sym (c .before .before .before .second-end .ensures)) (c .before .add-edge .ensures)
+loop-again c =
+    let add-edge = c .before .add-edge in
+    let at-ends-of = c .before .before .before in
+    let at-loop-test = at-ends-of .before .before .before .before in
+    let at-loop = at-loop-test .before in
+    let pre = at-loop .before .before .before .before .pre in
+    let ends = at-ends-of .ends-of .ensures in
+    counted-more (at-loop .loop .inv) (omega (arith, at-loop-test .loop-test .taken, pre .0 .rowLong)) (add-edge .kept .0) refl (sym (ends .0))
+    (sym (ends .1)) (add-edge .ensures)
 
 returns : tie.Need-returns Inv-loop μ-loop
-returns c = counted-all (c .before .loop .inv) (c .loop-test .left)
+returns c =
+    let pre = c .before .before .before .before .before .pre in
+    counted-all (c .before .loop .inv) (omega (arith, c .loop-test .left, pre .0 .rowLong))
 
 pub degrees-spec : {M : Type 1} → statement M
 degrees-spec =
@@ -64,15 +73,14 @@ degrees-spec =
     μ-loop
     loop-holds
     slice-aggregate-add-edge
-    mul-first-end
-    shared-slice-read-first-end
-    first-end-requires
-    mul-second-end
-    shared-slice-read-second-end
-    second-end-requires
+    (λ c. omega arith)
+    (λ c. omega arith)
+    (λ c. omega arith)
+    shared-slice-read-ends-of-2
+    ends-of-requires
     shared-slice-read-add-edge
     add-edge-requires
-    add-e
-    loop-less
+    (λ c. omega arith)
+    (λ c. omega arith)
     loop-again
     returns)

@@ -9,40 +9,25 @@ use Rattle.checks.proofs.lowest_ends.Statement.{statement}
 use Rattle.checks.proofs.lowest_ends.Tie as tie
 
 abbrev Inv-loop : tie.InvT-loop
-Inv-loop kind rows columns row column e₀ e = Kept (length row) (λ k. endsInRange kind rows columns (getD row k 0) (getD column k 0)) e
+Inv-loop s row column e₀ e = Kept (length row) (λ k. endsInRange (s .kind) (s .rows) (s .columns) (getD row k 0) (getD column k 0)) e
 
 abbrev μ-loop : tie.MeasureT-loop
-μ-loop kind rows columns row column e₀ e = length row - e
+μ-loop s row column e₀ e = length row - e
 
 loop-holds : tie.Need-loop-holds Inv-loop μ-loop
 loop-holds c = kept-none
 
-mul-ends-in-range : tie.Need-mul-ends-in-range Inv-loop μ-loop
-mul-ends-in-range c = omega arith
-
-shared-slice-read-ends-in-range : tie.Need-shared-slice-read-ends-in-range Inv-loop μ-loop
-shared-slice-read-ends-in-range c = omega arith
-
-mul-ends-in-range-2 : tie.Need-mul-ends-in-range-2 Inv-loop μ-loop
-mul-ends-in-range-2 c = omega arith
-
-shared-slice-read-ends-in-range-2 : tie.Need-shared-slice-read-ends-in-range-2 Inv-loop μ-loop
-shared-slice-read-ends-in-range-2 c = omega arith
-
-ends-in-range-requires : tie.Need-ends-in-range-requires Inv-loop μ-loop
-ends-in-range-requires c κs = tt
-
-add-e : tie.Need-add-e Inv-loop μ-loop
-add-e c = omega arith
-
-loop-less : tie.Need-loop-less Inv-loop μ-loop
-loop-less c = omega arith
-
 loop-again : tie.Need-loop-again Inv-loop μ-loop
-loop-again c = kept-more (c .before .before .before .before .before .loop .inv) (c .before .before .before .before .loop-test .taken) (sym (c .before .ends-in-range .ensures) ∙ c .if1 .taken)
+loop-again c =
+    let at-loop-test = c .before .before .before .before in
+    let inv = at-loop-test .before .loop .inv in
+    kept-more inv (at-loop-test .loop-test .taken) (sym (c .before .ends-in-range .ensures) ∙ c .if1 .taken)
 
 returns : tie.Need-returns Inv-loop μ-loop
-returns c = kept-broken (c .before .before .before .before .before .loop .inv) (c .before .before .before .before .loop-test .taken) (sym (c .before .ends-in-range .ensures) ∙ c .if1 .left)
+returns c =
+    let at-loop-test = c .before .before .before .before in
+    let inv = at-loop-test .before .loop .inv in
+    kept-broken inv (at-loop-test .loop-test .taken) (sym (c .before .ends-in-range .ensures) ∙ c .if1 .left)
 
 returns-2 : tie.Need-returns-2 Inv-loop μ-loop
 returns-2 c = kept-all (c .before .loop .inv) (c .loop-test .left)
@@ -54,13 +39,13 @@ lowest-ends-spec =
     Inv-loop
     μ-loop
     loop-holds
-    mul-ends-in-range
-    shared-slice-read-ends-in-range
-    mul-ends-in-range-2
-    shared-slice-read-ends-in-range-2
-    ends-in-range-requires
-    add-e
-    loop-less
+    (λ c. omega arith)
+    (λ c. omega arith)
+    (λ c. omega arith)
+    (λ c. omega arith)
+    (λ c κs. tt)
+    (λ c. omega arith)
+    (λ c. omega arith)
     loop-again
     returns
     returns-2)

@@ -17,20 +17,19 @@ abbrev μ-loop : tie.MeasureT-loop
 loop-holds : tie.Need-loop-holds Inv-loop μ-loop
 loop-holds c = kept-none
 
-shared-slice-read-if1 : tie.Need-shared-slice-read-if1 Inv-loop μ-loop
-shared-slice-read-if1 c = omega arith
-
-add-e : tie.Need-add-e Inv-loop μ-loop
-add-e c = omega arith
-
-loop-less : tie.Need-loop-less Inv-loop μ-loop
-loop-less c = omega arith
-
 loop-again : tie.Need-loop-again Inv-loop μ-loop
-loop-again c = kept-more (c .before .before .before .loop .inv) (c .before .before .loop-test .taken) (le-leb (getD (c .before .before .before .before .args .chosen .now) (c .before .before .before .loop .e) 0) 1 (omega arith))
+loop-again c =
+    let loop-test = c .before .before .loop-test in
+    let at-loop = c .before .before .before in
+    let args = at-loop .before .args in
+    kept-more (at-loop .loop .inv) (loop-test .taken) (le-leb (getD (args .chosen .now) (at-loop .loop .e) 0) 1 (omega arith))
 
 returns : tie.Need-returns Inv-loop μ-loop
-returns c = kept-broken (c .before .before .before .loop .inv) (c .before .before .loop-test .taken) (lt-leb (getD (c .before .before .before .before .args .chosen .now) (c .before .before .before .loop .e) 0) 1 (omega arith))
+returns c =
+    let loop-test = c .before .before .loop-test in
+    let at-loop = c .before .before .before in
+    let args = at-loop .before .args in
+    kept-broken (at-loop .loop .inv) (loop-test .taken) (lt-leb (getD (args .chosen .now) (at-loop .loop .e) 0) 1 (omega arith))
 
 returns-2 : tie.Need-returns-2 Inv-loop μ-loop
 returns-2 c = kept-all (c .before .loop .inv) (c .loop-test .left)
@@ -42,9 +41,9 @@ lowest-mark-spec =
     Inv-loop
     μ-loop
     loop-holds
-    shared-slice-read-if1
-    add-e
-    loop-less
+    (λ c. omega arith)
+    (λ c. omega arith)
+    (λ c. omega arith)
     loop-again
     returns
     returns-2)

@@ -19,47 +19,34 @@ abbrev μ-loop : tie.MeasureT-loop
 μ-loop bound degree v₀ v = length bound - v
 
 -- What the comparison answers.
-answer : (c : tie.After-at-most Inv-loop μ-loop) → c .at-most .result ≡ leZ (pos (getD (c .before .before .before .before .before .before .args .t1) (c .before .before .before .before .before .loop .v) 0)) (getD (c .before .before .before .before .before .before .args .bound .now) (c .before .before .before .before .before .loop .v) (pos 0))
+answer : (c : tie.After-at-most Inv-loop μ-loop) →
+    let at-loop = c .before .before .before .before .before in
+    let args = at-loop .before .args in
+    c .at-most .result ≡ leZ (pos (getD (args .t1) (at-loop .loop .v) 0)) (getD (args .bound .now) (at-loop .loop .v) (pos 0))
 answer c =
+    let widen = c .before .widen in
+    let widen-arg = c .before .before .widen-arg in
+    let at-whole = c .before .before .before in
+    let at-loop = at-whole .before .before in
+    let args = at-loop .before .args in
     c .at-most .ensures
-    ∙ ap₂ leZ (back w64 (c .before .before .before .whole .result) (c .before .before .before .whole .ok) ∙ c .before .before .before .whole .ensures .0)
-    (back w64 (c .before .widen .result) (c .before .widen .ok) ∙ c .before .widen .ensures .0 ∙ back w32 (getD (c .before .before .before .before .before .before .args .bound .now) (c .before .before .before .before .before .loop .v) (pos 0)) (c .before .before .widen-arg .given))
+    ∙ ap₂ leZ (back w64 (at-whole .whole .result) (at-whole .whole .ok) ∙ at-whole .whole .ensures .0)
+    (back w64 (widen .result) (widen .ok) ∙ widen .ensures .0 ∙ back w32 (getD (args .bound .now) (at-loop .loop .v) (pos 0)) (widen-arg .given))
 
 loop-holds : tie.Need-loop-holds Inv-loop μ-loop
 loop-holds c = kept-none
 
-mul-whole : tie.Need-mul-whole Inv-loop μ-loop
-mul-whole c = omega arith
-
-array-read-whole : tie.Need-array-read-whole Inv-loop μ-loop
-array-read-whole c = search needs
-
-whole-requires : tie.Need-whole-requires Inv-loop μ-loop
-whole-requires c κs = tt
-
-mul-widen : tie.Need-mul-widen Inv-loop μ-loop
-mul-widen c = omega arith
-
-shared-slice-copy-out-widen : tie.Need-shared-slice-copy-out-widen Inv-loop μ-loop
-shared-slice-copy-out-widen c = omega arith
-
-widen-requires : tie.Need-widen-requires Inv-loop μ-loop
-widen-requires c κs = tt
-
-at-most-requires : tie.Need-at-most-requires Inv-loop μ-loop
-at-most-requires c κs = tt
-
-add-v : tie.Need-add-v Inv-loop μ-loop
-add-v c = omega arith
-
-loop-less : tie.Need-loop-less Inv-loop μ-loop
-loop-less c = omega arith
-
 loop-again : tie.Need-loop-again Inv-loop μ-loop
-loop-again c = kept-more (c .before .before .before .before .before .before .loop .inv) (c .before .before .before .before .before .loop-test .taken) (sym (answer (c .before)) ∙ c .if1 .taken)
+loop-again c =
+    let at-loop-test = c .before .before .before .before .before in
+    let inv = at-loop-test .before .loop .inv in
+    kept-more inv (at-loop-test .loop-test .taken) (sym (answer (c .before)) ∙ c .if1 .taken)
 
 returns : tie.Need-returns Inv-loop μ-loop
-returns c = kept-broken (c .before .before .before .before .before .before .loop .inv) (c .before .before .before .before .before .loop-test .taken) (sym (answer (c .before)) ∙ c .if1 .left)
+returns c =
+    let at-loop-test = c .before .before .before .before .before in
+    let inv = at-loop-test .before .loop .inv in
+    kept-broken inv (at-loop-test .loop-test .taken) (sym (answer (c .before)) ∙ c .if1 .left)
 
 returns-2 : tie.Need-returns-2 Inv-loop μ-loop
 returns-2 c = kept-all (c .before .loop .inv) (c .loop-test .left)
@@ -71,15 +58,15 @@ lowest-over-spec =
     Inv-loop
     μ-loop
     loop-holds
-    mul-whole
-    array-read-whole
-    whole-requires
-    mul-widen
-    shared-slice-copy-out-widen
-    widen-requires
-    at-most-requires
-    add-v
-    loop-less
+    (λ c. omega arith)
+    (λ c. search needs)
+    (λ c κs. tt)
+    (λ c. omega arith)
+    (λ c. omega arith)
+    (λ c κs. tt)
+    (λ c κs. tt)
+    (λ c. omega arith)
+    (λ c. omega arith)
     loop-again
     returns
     returns-2)

@@ -1,64 +1,71 @@
 -- The loop keeps: no edge before e has the ends of an earlier one, and the table shows the ends of those before e.
-use Prim.Native.Nat.{_+_, _-_}
+use Prim.Native.Nat.{ℕ, _+_, _-_}
 use mathlib.Core.Path.{_≡_, refl, sym, ap, _∙_}
 use mathlib.Core.Bool.{not}
+use mathlib.Core.List.{List}
 use native.Mathlib.Omega.{arith}
 use lib.ListN.{length, getD}
-use Rattle.graph.specs.Graph.{joined}
-use Rattle.checks.specs.Checks.{Flagged, Seen, endsOf}
+use Rattle.checks.specs.Checks.{Flagged, joinedIn, Seen}
 use Rattle.checks.proofs.Scan.{Kept, kept-none, kept-more, kept-broken, kept-all}
-use Rattle.checks.proofs.Ends.{seen-start, seen-flag, seen-note}
+use Rattle.checks.proofs.Table.{seen-start, seen-flag, seen-note}
 use Rattle.checks.proofs.lowest_repeat.Statement.{statement}
 use Rattle.checks.proofs.lowest_repeat.Tie as tie
 
 abbrev Inv-loop : tie.InvT-loop
-Inv-loop row column flags₀ e₀ flags e = Kept (length row) (λ k. not (joined (endsOf row column) k (getD row k 0) (getD column k 0))) e × Seen flags (endsOf row column) e
+Inv-loop row column flags₀ e₀ flags e = Kept (length row) (λ k. not (joinedIn row column k (getD row k 0) (getD column k 0))) e × Seen flags row column e
 
 abbrev μ-loop : tie.MeasureT-loop
 μ-loop row column flags₀ e₀ flags e = length row - e
 
 -- What noting the edge answers, and leaves.
-ends : (c : tie.After-note Inv-loop μ-loop) → Flagged (getD (c .before .before .before .before .before .before .before .before .args .row .now) (c .before .before .before .before .before .loop .e) 0) × Flagged (getD (c .before .before .before .before .before .before .before .before .args .column .now) (c .before .before .before .before .before .loop .e) 0)
-ends c = c .before .before .before .before .before .before .before .before .pre .1 (c .before .before .before .before .before .loop .e) (c .before .before .before .before .loop-test .taken)
+module _ (c : tie.After-note Inv-loop μ-loop) where
+  abbrev place : tie.Start Inv-loop μ-loop
+  place = c .before .before .before .before .before .before .before .before
 
-answer : (c : tie.After-note Inv-loop μ-loop) → c .note .result ≡ joined (endsOf (c .before .before .before .before .before .before .before .before .args .row .now) (c .before .before .before .before .before .before .before .before .args .column .now)) (c .before .before .before .before .before .loop .e) (getD (c .before .before .before .before .before .before .before .before .args .row .now) (c .before .before .before .before .before .loop .e) 0) (getD (c .before .before .before .before .before .before .before .before .args .column .now) (c .before .before .before .before .before .loop .e) 0)
-answer c = c .note .ensures .0 ∙ seen-flag (c .before .before .before .before .before .loop .inv .1) (ends c .0) (ends c .1)
+  abbrev here : ℕ
+  here = c .before .before .before .before .before .loop .e
 
-noted : (c : tie.After-note Inv-loop μ-loop) → Seen (c .note .last .0) (endsOf (c .before .before .before .before .before .before .before .before .args .row .now) (c .before .before .before .before .before .before .before .before .args .column .now)) (c .before .before .before .before .before .loop .e + 1)
-noted c = seen-note (c .before .before .before .before .before .loop .inv .1) (c .note .last .0) _ _ (c .note .ensures .1) refl refl (ends c .0) (ends c .1)
+  abbrev row : List ℕ
+  row = place .args .row .now
+
+  abbrev column : List ℕ
+  column = place .args .column .now
+
+  ends : Flagged (getD row here 0) × Flagged (getD column here 0)
+  ends = place .pre .1 here (c .before .before .before .before .loop-test .taken)
+
+  answer : c .note .result ≡ joinedIn row column here (getD row here 0) (getD column here 0)
+  answer = c .note .ensures .0 ∙ seen-flag (c .before .before .before .before .before .loop .inv .1) (ends .0) (ends .1)
+
+  noted : Seen (c .note .last .0) row column (here + 1)
+  noted = seen-note (c .before .before .before .before .before .loop .inv .1) (c .note .last .0) _ _ (c .note .ensures .1) refl refl (ends .0) (ends .1)
 
 loop-holds : tie.Need-loop-holds Inv-loop μ-loop
-loop-holds c = (kept-none, seen-start _)
+loop-holds c = (kept-none, seen-start _ _)
 
 slice-aggregate-note : tie.Need-slice-aggregate-note Inv-loop μ-loop
 slice-aggregate-note c = sym (c .before .before .loop .inv .1 .long)
 
-mul-note : tie.Need-mul-note Inv-loop μ-loop
-mul-note c = omega arith
-
-shared-slice-read-note : tie.Need-shared-slice-read-note Inv-loop μ-loop
-shared-slice-read-note c = omega arith
-
-mul-note-2 : tie.Need-mul-note-2 Inv-loop μ-loop
-mul-note-2 c = omega arith
-
-shared-slice-read-note-2 : tie.Need-shared-slice-read-note-2 Inv-loop μ-loop
-shared-slice-read-note-2 c = omega arith
-
 note-requires : tie.Need-note-requires Inv-loop μ-loop
-note-requires c κs = (c .before .before .before .before .loop .inv .1 .long, (c .before .before .before .before .before .before .before .pre .1 (c .before .before .before .before .loop .e) (c .before .before .before .loop-test .taken)))
+note-requires c κs =
+    let at-loop-test = c .before .before .before in
+    let at-loop = at-loop-test .before in
+    let pre = at-loop .before .before .before .pre in
+    (at-loop .loop .inv .1 .long, (pre .1 (at-loop .loop .e) (at-loop-test .loop-test .taken)))
 
 returns : tie.Need-returns Inv-loop μ-loop
-returns c = kept-broken (c .before .before .before .before .before .before .before .loop .inv .0) (c .before .before .before .before .before .before .loop-test .taken) (ap not (sym (answer (c .before .before)) ∙ c .if1 .taken))
-
-add-e : tie.Need-add-e Inv-loop μ-loop
-add-e c = omega arith
-
-loop-less : tie.Need-loop-less Inv-loop μ-loop
-loop-less c = omega arith
+returns c =
+    let place = c .before .before in
+    let at-loop-test = place .before .before .before .before in
+    let inv = at-loop-test .before .loop .inv in
+    kept-broken (inv .0) (at-loop-test .loop-test .taken) (ap not (sym (answer place) ∙ c .if1 .taken))
 
 loop-again : tie.Need-loop-again Inv-loop μ-loop
-loop-again c = (kept-more (c .before .before .before .before .before .before .before .loop .inv .0) (c .before .before .before .before .before .before .loop-test .taken) (ap not (sym (answer (c .before .before)) ∙ c .if1 .left)), noted (c .before .before))
+loop-again c =
+    let place = c .before .before in
+    let at-loop-test = place .before .before .before .before in
+    let inv = at-loop-test .before .loop .inv in
+    (kept-more (inv .0) (at-loop-test .loop-test .taken) (ap not (sym (answer place) ∙ c .if1 .left)), noted place)
 
 returns-2 : tie.Need-returns-2 Inv-loop μ-loop
 returns-2 c = kept-all (c .before .loop .inv .0) (c .loop-test .left)
@@ -71,13 +78,13 @@ lowest-repeat-spec =
     μ-loop
     loop-holds
     slice-aggregate-note
-    mul-note
-    shared-slice-read-note
-    mul-note-2
-    shared-slice-read-note-2
+    (λ c. omega arith)
+    (λ c. omega arith)
+    (λ c. omega arith)
+    (λ c. omega arith)
     note-requires
     returns
-    add-e
-    loop-less
+    (λ c. omega arith)
+    (λ c. omega arith)
     loop-again
     returns-2)

@@ -7,12 +7,15 @@ use Rattle.checks.proofs.up_to.Statement.{statement}
 use Rattle.checks.proofs.up_to.Tie as tie
 
 returns : tie.Need-returns
-returns c = ap (λ (b : Bool). b && leb (c .before .args .x) (c .before .args .n)) (sym (le-leb 1 (c .before .args .x) (c .if1 .taken)))
+returns c =
+    let args = c .before .args in
+    ap (λ (b : Bool). b && leb (args .x) (args .n)) (sym (le-leb 1 (args .x) (c .if1 .taken)))
 
 returns-2 : tie.Need-returns-2
 returns-2 c =
-    let f = lt-leb 1 (c .before .args .x) (c .if1 .left) in
-    f ∙ sym (ap (λ (b : Bool). b && leb (c .before .args .x) (c .before .args .n)) f)
+    let args = c .before .args in
+    let f = lt-leb 1 (args .x) (c .if1 .left) in
+    f ∙ sym (ap (λ (b : Bool). b && leb (args .x) (args .n)) f)
 
 pub up-to-spec : {M : Type 1} → statement M
 up-to-spec = tie.close (tie.spec returns returns-2)

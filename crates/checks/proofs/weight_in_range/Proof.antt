@@ -7,11 +7,10 @@ use Rattle.graph.specs.Graph.{weightInRange}
 use Rattle.checks.proofs.weight_in_range.Statement.{statement}
 use Rattle.checks.proofs.weight_in_range.Tie as tie
 
-in-range-requires : tie.Need-in-range-requires
-in-range-requires c κs = search needs
-
 returns : tie.Need-returns
-returns c = c .in-range .ensures ∙ ap weightInRange (back w32 (c .before .args .x) (c .before .fits .x .sfits))
+returns c =
+    let start = c .before in
+    c .in-range .ensures ∙ ap weightInRange (back w32 (start .args .x) (start .fits .x .sfits))
 
 pub weight-in-range-spec : {M : Type 1} → statement M
-weight-in-range-spec = tie.close (tie.spec in-range-requires returns)
+weight-in-range-spec = tie.close (tie.spec (λ c κs. search needs) returns)

@@ -1,65 +1,141 @@
--- `read_lines` reads the header, the size line and the later lines, one after the other.
-use mathlib.Core.Path.{sym, ap, _∙_}
-use denote.Ref.{now}
+-- `read_lines` reads the header and the size line, and then the later lines.
+use mathlib.Core.Path.{sym, ap, _∙_, subst}
+use Rattle.graph.specs.declared.Fault.the-variants.{Header}
+use Rattle.layout.specs.GraphText.{graphLayout}
+use Rattle.lines.proofs.Walk.{opened-line, header-refused, header-goes, header-stops, size-refused, size-goes, size-stops}
+use Rattle.graph_reader.specs.OnLine.{shapeSays, ShapeInRange}
+use Rattle.graph_reader.proofs.OnLine.{header-is, header-not}
+use Rattle.graph_reader.proofs.Edges.{read-refused}
 use borrow.Author.Needs.{needs}
-use Rattle.graph_reader.specs.Turn.{afterHeaderSays, afterSizesSay}
-use Rattle.graph_reader.proofs.Whole.{header-reached, sizes-in, phase-refuses, phase-ends}
 use Rattle.graph_reader.proofs.read_lines.Statement.{statement}
 use Rattle.graph_reader.proofs.read_lines.Tie as tie
 
-read-header-requires : tie.Need-read-header-requires
-read-header-requires c κs = search needs
+sub-header-kind : tie.Need-sub-header-kind
+sub-header-kind c =
+    let header-line = c .before .before .before .header-line in
+    opened-line (header-line .ensures) (c .before .start .given .1) .forward
 
-enum-known-r : tie.Need-enum-known-r
-enum-known-r c = search needs
+part-header-kind-start : tie.Need-part-header-kind-start
+part-header-kind-start c =
+    let header-line = c .before .before .before .header-line in
+    opened-line (header-line .ensures) (c .before .start .given .1) .forward
 
-enum-known-kind : tie.Need-enum-known-kind
-enum-known-kind c = search needs
-
-read-sizes-requires : tie.Need-read-sizes-requires
-read-sizes-requires c κs = header-reached (c .before .before .before .read-header .ensures .1) (c .before .kind .given .1)
-
-enum-known-r-2 : tie.Need-enum-known-r-2
-enum-known-r-2 c = search needs
-
-enum-known-rows : tie.Need-enum-known-rows
-enum-known-rows c = search needs
-
-read-edges-requires : tie.Need-read-edges-requires
-read-edges-requires c κs = let z = sizes-in (c .before .before .before .before .before .before .read-sizes .ensures .1) (c .before .before .before .before .rows .given .1) in (z .reached, (z .ranged, c .before .before .before .before .before .before .before .before .before .before .before .before .before .before .pre))
+part-header-kind-end : tie.Need-part-header-kind-end
+part-header-kind-end c =
+    let header-line = c .before .before .before .header-line in
+    opened-line (header-line .ensures) (c .before .start .given .1) .ends
 
 returns : tie.Need-returns
-returns c = phase-refuses (sym (ap (afterHeaderSays (now (c .before .before .before .before .before .before .before .args .text))) (c .before .r .given .1)) ∙ c .before .before .before .read-header .ensures .0)
+returns c =
+    let at-header-kind = c .before .before .before in
+    let at-start = at-header-kind .before .before .before .before in
+    let header-line = at-start .before .before .header-line in
+    read-refused _
+    (header-stops graphLayout (header-line .ensures) (at-start .start .given .1) Header
+    (header-not _ (at-header-kind .header-kind .ensures) (c .before .enum-told .given .1)) (c .refused-at .ensures))
+
+size-line-requires : tie.Need-size-line-requires
+size-line-requires c κs =
+    let at-start = c .before .before .before .before .before .before .before in
+    let header-line = at-start .before .before .header-line in
+    opened-line (header-line .ensures) (at-start .start .given .1) .reached
+
+sub-size-on : tie.Need-sub-size-on
+sub-size-on c =
+    let size-line = c .before .before .before .size-line in
+    opened-line (size-line .ensures) (c .before .start2 .given .1) .forward
+
+part-size-on-start : tie.Need-part-size-on-start
+part-size-on-start c =
+    let size-line = c .before .before .before .size-line in
+    opened-line (size-line .ensures) (c .before .start2 .given .1) .forward
+
+part-size-on-end : tie.Need-part-size-on-end
+part-size-on-end c =
+    let size-line = c .before .before .before .size-line in
+    opened-line (size-line .ensures) (c .before .start2 .given .1) .ends
+
+read-edges-requires : tie.Need-read-edges-requires
+read-edges-requires c κs =
+    let at-s = c .before .before .before .before in
+    let at-size-on = at-s .before .before in
+    let at-start2 = at-size-on .before .before .before in
+    let at-size-line = at-start2 .before .before in
+    let at-kind = at-size-line .before .before in
+    let at-header-kind = at-kind .before .before in
+    let at-start = at-header-kind .before .before .before .before in
+    let at-header-line = at-start .before .before in
+    let pre = at-header-line .before .before .before .before .pre in
+    let w = header-goes graphLayout (at-header-line .header-line .ensures) (at-start .start .given .1) _
+    (header-is _ (at-header-kind .header-kind .ensures) (at-kind .kind .given .1)) in (
+      size-goes graphLayout w (at-size-line .size-line .ensures) (at-start2 .start2 .given .1) _
+          (sym (at-size-on .size-on .ensures .0) ∙ ap shapeSays (at-s .s .given .1)),
+      (subst ShapeInRange (at-s .s .given .1) (at-size-on .size-on .ensures .1), pre),
+    )
 
 returns-2 : tie.Need-returns-2
-returns-2 c = phase-refuses (sym (ap (afterSizesSay (c .before .before .before .before .before .kind .given .0 .0) (now (c .before .before .before .before .before .before .before .before .before .before .before .args .text))) (c .before .r2 .given .1)) ∙ c .before .before .before .read-sizes .ensures .0 ∙ sym (ap (afterHeaderSays (now (c .before .before .before .before .before .before .before .before .before .before .before .args .text))) (c .before .before .before .before .before .kind .given .1)) ∙ c .before .before .before .before .before .before .before .read-header .ensures .0)
-
-same-length : tie.Need-same-length
-same-length c = search needs
-
-same-length-2 : tie.Need-same-length-2
-same-length-2 c = search needs
-
-same-length-3 : tie.Need-same-length-3
-same-length-3 c = search needs
+returns-2 c =
+    let header-line = c .before .before .before .header-line in
+    read-refused _ (header-refused graphLayout (header-line .ensures) (c .before .r .given .1))
 
 returns-3 : tie.Need-returns-3
-returns-3 c = phase-ends (sym (ap (afterSizesSay (c .before .before .before .before .before .before .before .before .before .before .before .before .before .before .kind .given .0 .0) (now (c .before .before .before .before .before .before .before .before .before .before .before .before .before .before .before .before .before .before .before .before .args .text))) (c .before .before .before .before .before .before .before .before .before .before .rows .given .1)) ∙ c .before .before .before .before .before .before .before .before .before .before .before .before .read-sizes .ensures .0 ∙ sym (ap (afterHeaderSays (now (c .before .before .before .before .before .before .before .before .before .before .before .before .before .before .before .before .before .before .before .before .args .text))) (c .before .before .before .before .before .before .before .before .before .before .before .before .before .before .kind .given .1)) ∙ c .before .before .before .before .before .before .before .before .before .before .before .before .before .before .before .before .read-header .ensures .0) (c .before .before .before .before .before .read-edges .ensures .0) (c .before .before .before .before .before .read-edges .ensures .1)
+returns-3 c =
+    let at-size-line = c .before .before .before in
+    let at-kind = at-size-line .before .before in
+    let at-header-kind = at-kind .before .before in
+    let at-start = at-header-kind .before .before .before .before in
+    let header-line = at-start .before .before .header-line in
+    let w = header-goes graphLayout (header-line .ensures) (at-start .start .given .1) _
+    (header-is _ (at-header-kind .header-kind .ensures) (at-kind .kind .given .1)) in
+    read-refused _ (size-refused graphLayout w (at-size-line .size-line .ensures) (c .before .r2 .given .1))
+
+returns-4 : tie.Need-returns-4
+returns-4 c =
+    let fault = c .before .before .fault in
+    let at-size-on = c .before .before .before .before in
+    let at-start2 = at-size-on .before .before .before in
+    let at-size-line = at-start2 .before .before in
+    let at-kind = at-size-line .before .before in
+    let at-header-kind = at-kind .before .before in
+    let at-start = at-header-kind .before .before .before .before in
+    let header-line = at-start .before .before .header-line in
+    let w = header-goes graphLayout (header-line .ensures) (at-start .start .given .1) _
+    (header-is _ (at-header-kind .header-kind .ensures) (at-kind .kind .given .1)) in
+    read-refused _
+    (size-stops graphLayout w (at-size-line .size-line .ensures) (at-start2 .start2 .given .1) _
+    (sym (at-size-on .size-on .ensures .0) ∙ ap shapeSays (fault .given .1)) (c .refused-at2 .ensures))
 
 pub read-lines-spec : {M : Type 1} → statement M
 read-lines-spec =
     tie.close
     (tie.spec
-    read-header-requires
-    enum-known-r
-    enum-known-kind
-    read-sizes-requires
-    enum-known-r-2
-    enum-known-rows
-    read-edges-requires
+    (λ c κs. search needs)
+    (λ c. search needs)
+    (λ c. search needs)
+    sub-header-kind
+    part-header-kind-start
+    part-header-kind-end
+    (λ c. search needs)
+    (λ c κs. search needs)
+    (λ c. search needs)
+    (λ c. search needs)
+    (λ c κs. search needs)
     returns
+    size-line-requires
+    (λ c. search needs)
+    (λ c. search needs)
+    sub-size-on
+    part-size-on-start
+    part-size-on-end
+    (λ c κs. search needs)
+    (λ c. search needs)
+    (λ c κs. search needs)
+    (λ c. search needs)
+    read-edges-requires
     returns-2
-    same-length
-    same-length-2
-    same-length-3
-    returns-3)
+    returns-3
+    returns-4
+    (λ c. search needs)
+    (λ c. search needs)
+    (λ c. search needs)
+    (λ c. search needs))

@@ -6,15 +6,6 @@ use Rattle.integers.proofs.Order.{back, within-back}
 use Rattle.integers.proofs.element.Statement.{statement}
 use Rattle.integers.proofs.element.Tie as tie
 
-mul-widen : tie.Need-mul-widen
-mul-widen c = search needs
-
-shared-slice-copy-out-widen : tie.Need-shared-slice-copy-out-widen
-shared-slice-copy-out-widen c = search needs
-
-widen-requires : tie.Need-widen-requires
-widen-requires c κs = search needs
-
 returns : tie.Need-returns
 returns c = (
   back w64 _ (c .widen .ok) ∙ c .widen .ensures .0 ∙ back w32 _ (c .before .widen-arg .given),
@@ -22,4 +13,4 @@ returns c = (
 )
 
 pub element-spec : {M : Type 1} → statement M
-element-spec = tie.close (tie.spec mul-widen shared-slice-copy-out-widen widen-requires returns)
+element-spec = tie.close (tie.spec (λ c. search needs) (λ c. search needs) (λ c κs. search needs) returns)

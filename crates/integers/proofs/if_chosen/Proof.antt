@@ -11,13 +11,15 @@ use Rattle.integers.proofs.if_chosen.Tie as tie
 
 returns : tie.Need-returns
 returns c =
-    simp (toZ-ofZ w64 (c .before .args .x) (c .before .fits .x))
-    (sym (ap (λ (k : ℕ). pos k *ℤ c .before .args .x) (c .if1 .taken) ∙ one-times (c .before .args .x)), omega arith)
+    let start = c .before in
+    simp (toZ-ofZ w64 (start .args .x) (start .fits .x))
+    (sym (ap (λ (k : ℕ). pos k *ℤ start .args .x) (c .if1 .taken) ∙ one-times (start .args .x)), omega arith)
 
 returns-2 : tie.Need-returns-2
 returns-2 c =
-    let none : c .before .args .mark ≡ 0 = omega (arith, c .before .pre, c .if1 .left) in
-    (sym (ap (λ (k : ℕ). pos k *ℤ c .before .args .x) none ∙ zero-times (c .before .args .x)), omega arith)
+    let start = c .before in
+    let none : start .args .mark ≡ 0 = omega (arith, start .pre, c .if1 .left) in
+    (sym (ap (λ (k : ℕ). pos k *ℤ start .args .x) none ∙ zero-times (start .args .x)), omega arith)
 
 pub if-chosen-spec : {M : Type 1} → statement M
 if-chosen-spec = tie.close (tie.spec returns returns-2)

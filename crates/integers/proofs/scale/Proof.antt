@@ -22,11 +22,8 @@ fit c = fits-within w64 _ (within c) (lit< tt)
 returns : tie.Need-returns
 returns c = simp (toZ-pos w64 (c .args .k) (omega arith), toZ-ofZ w64 (c .args .x) (c .fits .x), toZ-ofZ w64 _ (fit c))
 
-cast-result : tie.Need-cast-result
-cast-result c = search needs
-
 mul-result : tie.Need-mul-result
 mul-result c = simp (toZ-pos w64 (c .args .k) (omega arith), toZ-ofZ w64 (c .args .x) (c .fits .x)) (fit c)
 
 pub scale-spec : {M : Type 1} → statement M
-scale-spec = tie.close (tie.spec cast-result mul-result returns)
+scale-spec = tie.close (tie.spec (λ c. search needs) mul-result returns)

@@ -7,11 +7,8 @@ use mir.ValLaws.{toZ-pos}
 use Rattle.integers.proofs.whole.Statement.{statement}
 use Rattle.integers.proofs.whole.Tie as tie
 
-cast-result : tie.Need-cast-result
-cast-result c = search needs
-
 returns : tie.Need-returns
 returns c = simp (toZ-pos w64 (c .args .x) (omega arith)) (refl, omega arith)
 
 pub whole-spec : {M : Type 1} → statement M
-whole-spec = tie.close (tie.spec cast-result returns)
+whole-spec = tie.close (tie.spec (λ c. search needs) returns)

@@ -1,39 +1,17 @@
 -- What is returned, told and left is what the subgraph writer answers, in each of its two cases.
 use mathlib.Core.Path.{sym, ap, _∙_}
-use borrow.Author.Needs.{needs}
 use Rattle.graph.specs.Refusal.{yields, refuses}
 use Rattle.layout.specs.Answers.{textSays}
 use Rattle.jangoripu.proofs.Told.{text-written}
+use borrow.Author.Needs.{needs}
 use Rattle.jangoripu.proofs.jangoripu_write_subgraph.Statement.{statement}
 use Rattle.jangoripu.proofs.jangoripu_write_subgraph.Tie as tie
-
-kind-of-requires : tie.Need-kind-of-requires
-kind-of-requires c κs = search needs
-
-write-subgraph-requires : tie.Need-write-subgraph-requires
-write-subgraph-requires c κs = search needs
-
-enum-known-length : tie.Need-enum-known-length
-enum-known-length c = search needs
-
-enum-known-refusal : tie.Need-enum-known-refusal
-enum-known-refusal c = search needs
-
-number-requires : tie.Need-number-requires
-number-requires c κs = search needs
-
-same-length : tie.Need-same-length
-same-length c = search needs
 
 returns : tie.Need-returns
 returns c =
     let n = c .before .before .length .given in
     let done = c .before .before .before .before .before .before .write-subgraph .ensures in
-    rw (← c .before .before .before .before .before .before .before .before .kind-of .ensures)
-    (text-written (yields (n .0 .0)) (sym (ap textSays (n .1)) ∙ done .0) (done .1))
-
-same-length-2 : tie.Need-same-length-2
-same-length-2 c = search needs
+    rw (← c .before .before .before .before .before .before .before .before .kind-of .ensures) (text-written (yields (n .0 .0)) (sym (ap textSays (n .1)) ∙ done .0) (done .1))
 
 returns-2 : tie.Need-returns-2
 returns-2 c =
@@ -46,12 +24,12 @@ pub jangoripu-write-subgraph-spec : {M : Type 1} → statement M
 jangoripu-write-subgraph-spec =
     tie.close
     (tie.spec
-    kind-of-requires
-    write-subgraph-requires
-    enum-known-length
-    enum-known-refusal
-    number-requires
-    same-length
+    (λ c κs. search needs)
+    (λ c κs. search needs)
+    (λ c. search needs)
+    (λ c. search needs)
+    (λ c κs. search needs)
+    (λ c. search needs)
     returns
-    same-length-2
+    (λ c. search needs)
     returns-2)

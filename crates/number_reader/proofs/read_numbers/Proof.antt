@@ -1,71 +1,87 @@
 -- `read_numbers` clears its output, makes the tests, reads the lines, and clears its output again after a refusal.
 use Prim.Native.Nat.{ℕ}
 use mathlib.Core.Path.{ap, _∙_}
+use lib.Dec.{eqb}
 use lib.IntN.{pos}
 use lib.ListN.{length, replicate, length-replicate}
 use denote.Ref.{now}
+use Rattle.number_reader.proofs.Whole.{lent-right, whole-lent, whole-read, whole-refused}
 use borrow.Author.Needs.{needs}
-use Rattle.number_reader.proofs.Whole.{cleared, lent-right, whole-lent, whole-read, whole-refused, at-entry}
 use Rattle.number_reader.proofs.read_numbers.Statement.{statement}
 use Rattle.number_reader.proofs.read_numbers.Tie as tie
 
-clear-integers-requires : tie.Need-clear-integers-requires
-clear-integers-requires c κs = search needs
-
-check-lent-requires : tie.Need-check-lent-requires
-check-lent-requires c κs = search needs
-
-enum-known-r : tie.Need-enum-known-r
-enum-known-r c = search needs
-
-enum-told : tie.Need-enum-told
-enum-told c = search needs
-
 read-lines-requires : tie.Need-read-lines-requires
-read-lines-requires c κs = (lent-right (c .before .before .before .before .before .before .before .before .args .what) (c .before .before .before .before .before .before .before .before .args .count) (length (c .before .before .before .before .before .clear-integers .last .0)) (now (c .before .before .before .before .before .before .before .before .args .text)) (c .before .before .before .check-lent .ensures) (c .before .enum-told .given .1), (cleared (length (now (c .before .before .before .before .before .before .before .before .args .out))) (c .before .before .before .before .before .clear-integers .ensures)))
-
-enum-told-2 : tie.Need-enum-told-2
-enum-told-2 c = search needs
-
-enum-known-r-2 : tie.Need-enum-known-r-2
-enum-known-r-2 c = search needs
-
-clear-integers-requires-2 : tie.Need-clear-integers-requires-2
-clear-integers-requires-2 c κs = search needs
-
-same-length : tie.Need-same-length
-same-length c = search needs
+read-lines-requires c κs =
+    let at-check-text = c .before .before .before in
+    let at-both = at-check-text .before in
+    let at-clear-integers = at-both .before .before in
+    let args = at-clear-integers .before .before .before .args in
+    at-clear-integers .clear-integers .ensures
+    ∙ ap (λ (k : ℕ). replicate k (pos 0))
+    (lent-right (args .what) (args .count) (length (now (args .out))) (now (args .text))
+    (ap (λ (k : ℕ). eqb k (args .count))
+    (ap length (at-clear-integers .clear-integers .ensures) ∙ length-replicate (length (now (args .out))) (pos 0))) (at-both .both .ensures) _
+    (at-check-text .check-text .ensures) (c .before .enum-told .given .1))
 
 returns : tie.Need-returns
-returns c = at-entry (whole-lent (c .before .before .before .before .before .before .before .before .args .what) (c .before .before .before .before .before .before .before .before .args .count) (length (c .before .before .before .before .before .clear-integers .last .0)) (now (c .before .before .before .before .before .before .before .before .args .text)) (c .before .before .before .check-lent .ensures) (c .before .r .given .1) (cleared (length (now (c .before .before .before .before .before .before .before .before .args .out))) (c .before .before .before .before .before .clear-integers .ensures))) (ap length (c .before .before .before .before .before .clear-integers .ensures) ∙ length-replicate (length (now (c .before .before .before .before .before .before .before .before .args .out))) (pos 0))
-
-same-length-2 : tie.Need-same-length-2
-same-length-2 c = search needs
+returns c =
+    let at-check-text = c .before .before .before in
+    let at-both = at-check-text .before in
+    let at-clear-integers = at-both .before .before in
+    let args = at-clear-integers .before .before .before .args in
+    whole-lent (args .what) (args .count) (length (now (args .out))) (now (args .text))
+    (ap (λ (k : ℕ). eqb k (args .count))
+    (ap length (at-clear-integers .clear-integers .ensures) ∙ length-replicate (length (now (args .out))) (pos 0))) (at-both .both .ensures) _
+    (at-check-text .check-text .ensures) (c .before .r .given .1) (at-clear-integers .clear-integers .ensures)
 
 returns-2 : tie.Need-returns-2
-returns-2 c = at-entry (whole-read (c .before .before .before .before .before .before .before .before .before .before .before .before .args .what) (c .before .before .before .before .before .before .before .before .before .before .before .before .args .count) (length (c .before .before .before .before .before .before .before .before .before .clear-integers .last .0)) (now (c .before .before .before .before .before .before .before .before .before .before .before .before .args .text)) (c .before .before .before .before .before .before .before .check-lent .ensures) (c .before .before .before .before .before .enum-told .given .1) (c .before .before .before .read-lines .ensures .0) (c .enum-told2 .given .1) (c .before .before .before .read-lines .ensures .1)) (ap length (c .before .before .before .before .before .before .before .before .before .clear-integers .ensures) ∙ length-replicate (length (now (c .before .before .before .before .before .before .before .before .before .before .before .before .args .out))) (pos 0))
-
-same-length-3 : tie.Need-same-length-3
-same-length-3 c = search needs
+returns-2 c =
+    let at-read-lines = c .before .before .before in
+    let at-enum-told = at-read-lines .before .before in
+    let at-check-text = at-enum-told .before .before in
+    let at-both = at-check-text .before in
+    let at-clear-integers = at-both .before .before in
+    let args = at-clear-integers .before .before .before .args in
+    whole-read (args .what) (args .count) (length (now (args .out))) (now (args .text))
+    (ap (λ (k : ℕ). eqb k (args .count))
+    (ap length (at-clear-integers .clear-integers .ensures) ∙ length-replicate (length (now (args .out))) (pos 0))) (at-both .both .ensures) _
+    (at-check-text .check-text .ensures) (at-enum-told .enum-told .given .1) (at-read-lines .read-lines .ensures) (c .enum-told2 .given .1)
 
 returns-3 : tie.Need-returns-3
-returns-3 c = at-entry (whole-refused (c .before .before .before .before .before .before .before .before .before .before .before .before .before .before .before .before .args .what) (c .before .before .before .before .before .before .before .before .before .before .before .before .before .before .before .before .args .count) (length (c .before .before .before .before .before .before .before .before .before .before .before .before .before .clear-integers .last .0)) (now (c .before .before .before .before .before .before .before .before .before .before .before .before .before .before .before .before .args .text)) (c .before .before .before .before .before .before .before .before .before .before .before .check-lent .ensures) (c .before .before .before .before .before .before .before .before .before .enum-told .given .1) (c .before .before .before .before .before .before .before .read-lines .ensures .0) (c .before .before .before .before .r2 .given .1) (c .before .clear-integers2 .ensures ∙ ap (λ (k : ℕ). replicate k (pos 0)) (c .before .before .before .before .before .before .before .read-lines .kept .1 .1 .1 .0))) (ap length (c .before .before .before .before .before .before .before .before .before .before .before .before .before .clear-integers .ensures) ∙ length-replicate (length (now (c .before .before .before .before .before .before .before .before .before .before .before .before .before .before .before .before .args .out))) (pos 0))
+returns-3 c =
+    let at-r2 = c .before .before .before .before in
+    let at-read-lines = at-r2 .before .before .before in
+    let at-enum-told = at-read-lines .before .before in
+    let at-check-text = at-enum-told .before .before in
+    let at-both = at-check-text .before in
+    let at-clear-integers = at-both .before .before in
+    let args = at-clear-integers .before .before .before .args in
+    whole-refused (args .what) (args .count) (length (now (args .out))) (now (args .text))
+    (ap (λ (k : ℕ). eqb k (args .count))
+    (ap length (at-clear-integers .clear-integers .ensures) ∙ length-replicate (length (now (args .out))) (pos 0))) (at-both .both .ensures) _
+    (at-check-text .check-text .ensures) (at-enum-told .enum-told .given .1) (at-read-lines .read-lines .ensures) (at-r2 .r2 .given .1)
+    (c .before .clear-integers2 .ensures
+    ∙ ap (λ (k : ℕ). replicate k (pos 0))
+    (at-read-lines .read-lines .kept .1 .1 .1 .0 ∙ ap length (at-clear-integers .clear-integers .ensures)
+    ∙ length-replicate (length (now (args .out))) (pos 0)))
 
 pub read-numbers-spec : {M : Type 1} → statement M
 read-numbers-spec =
     tie.close
     (tie.spec
-    clear-integers-requires
-    check-lent-requires
-    enum-known-r
-    enum-told
+    (λ c κs. search needs)
+    (λ c. search needs)
+    (λ c κs. search needs)
+    (λ c κs. search needs)
+    (λ c. search needs)
+    (λ c. search needs)
     read-lines-requires
-    enum-told-2
-    enum-known-r-2
-    clear-integers-requires-2
-    same-length
+    (λ c. search needs)
+    (λ c. search needs)
+    (λ c κs. search needs)
+    (λ c. search needs)
     returns
-    same-length-2
+    (λ c. search needs)
     returns-2
-    same-length-3
+    (λ c. search needs)
     returns-3)

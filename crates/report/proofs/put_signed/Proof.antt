@@ -8,20 +8,8 @@ use Rattle.report.proofs.Parts.{negative-put, positive-put}
 use Rattle.report.proofs.put_signed.Statement.{statement}
 use Rattle.report.proofs.put_signed.Tie as tie
 
-magnitude-requires : tie.Need-magnitude-requires
-magnitude-requires c κs = search needs
-
-slice-write-out : tie.Need-slice-write-out
-slice-write-out c = search needs
-
-add-put-natural : tie.Need-add-put-natural
-add-put-natural c = search needs
-
 put-natural-requires : tie.Need-put-natural-requires
 put-natural-requires c κs = simp length-set (omega (arith, c .before .before .before .before .pre))
-
-put-natural-requires-2 : tie.Need-put-natural-requires-2
-put-natural-requires-2 c κs = search needs
 
 same-length : tie.Need-same-length
 same-length c = c .before .before .put-natural .kept .0 ∙ simp length-set
@@ -33,9 +21,6 @@ returns c =
     negative-put (now (s .args .out)) (s .args .at) (s .args .z) (m .magnitude .result) (s .fits .z) (s .pre) (m .magnitude .ensures)
     (c .before .before .before .before .if1 .taken)
     (c .before .before .put-natural .ensures)
-
-same-length-2 : tie.Need-same-length-2
-same-length-2 c = search needs
 
 returns-2 : tie.Need-returns-2
 returns-2 c =
@@ -49,12 +34,12 @@ pub put-signed-spec : {M : Type 1} → statement M
 put-signed-spec =
     tie.close
     (tie.spec
-    magnitude-requires
-    slice-write-out
-    add-put-natural
+    (λ c κs. search needs)
+    (λ c. search needs)
+    (λ c. search needs)
     put-natural-requires
-    put-natural-requires-2
+    (λ c κs. search needs)
     same-length
     returns
-    same-length-2
+    (λ c. search needs)
     returns-2)

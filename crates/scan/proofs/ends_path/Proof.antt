@@ -8,11 +8,8 @@ use Rattle.scan.proofs.ends_path.Tie as tie
 returns : tie.Need-returns
 returns c = decides-no (λ p. omega (arith, p .0, c .if1 .taken))
 
-is-free-requires : tie.Need-is-free-requires
-is-free-requires c κs = search needs
-
 returns-2 : tie.Need-returns-2
 returns-2 c = decides-both (omega (arith, c .before .if1 .left)) (c .is-free .ensures)
 
 pub ends-path-spec : {M : Type 1} → statement M
-ends-path-spec = tie.close (tie.spec returns is-free-requires returns-2)
+ends-path-spec = tie.close (tie.spec returns (λ c κs. search needs) returns-2)

@@ -8,18 +8,9 @@ use Rattle.scan.proofs.is_free.Tie as tie
 returns : tie.Need-returns
 returns c = decides-no (λ f. omega (arith, f .column, c .if1 .taken))
 
-mul-result : tie.Need-mul-result
-mul-result c = search needs
-
-element-copy-out-result : tie.Need-element-copy-out-result
-element-copy-out-result c = search needs
-
-natural-at-requires : tie.Need-natural-at-requires
-natural-at-requires c κs = search needs
-
 returns-2 : tie.Need-returns-2
 returns-2 c = decides-free (omega (arith, c .before .before .if1 .left)) (c .natural-at .ensures)
 
 pub is-free-spec : {M : Type 1} → statement M
 is-free-spec =
-    tie.close (tie.spec returns mul-result element-copy-out-result natural-at-requires returns-2)
+    tie.close (tie.spec returns (λ c. search needs) (λ c. search needs) (λ c κs. search needs) returns-2)

@@ -1,46 +1,49 @@
 -- The loop keeps: no vertex before v is inside.
-use Prim.Native.Nat.{_+_, _*_, _-_}
+use Prim.Native.Nat.{_-_}
 use mathlib.Core.Path.{sym, ap, _∙_}
 use Rattle.graph.specs.Graph.{some?}
-use Rattle.dual.specs.Prices.{bit}
-use Rattle.sets.proofs.Loops.{Unseen, unseen-none, unseen-more, unseen-seen, unseen-all}
+use Rattle.sets.specs.Words.{isInside}
+use Rattle.checks.proofs.Scan.{Unseen, unseen-none, unseen-more, unseen-seen, unseen-all}
 use native.Mathlib.Omega.{arith}
 use Rattle.sets.proofs.has_vertex.Statement.{statement}
 use Rattle.sets.proofs.has_vertex.Tie as tie
 
 abbrev Inv-loop : tie.InvT-loop
-Inv-loop rows columns insides s n v₀ v = Unseen n (λ k. bit insides (128 * s + k)) v
+Inv-loop insides k n v₀ v = Unseen n (isInside insides k) v
 
 abbrev μ-loop : tie.MeasureT-loop
-μ-loop rows columns insides s n v₀ v = n - v
-
-vertex-count-requires : tie.Need-vertex-count-requires Inv-loop μ-loop
-vertex-count-requires c κs = tt
+μ-loop insides k n v₀ v = n - v
 
 loop-holds : tie.Need-loop-holds Inv-loop μ-loop
 loop-holds c = unseen-none
 
 is-inside-requires : tie.Need-is-inside-requires Inv-loop μ-loop
-is-inside-requires c κs = omega (arith, c .before .before .before .before .pre .0, c .before .before .before .before .pre .1, c .before .before .vertex-count .ensures)
+is-inside-requires c κs =
+    let pre = c .before .before .before .before .pre in
+    let n = c .before .before .vertex-count .ensures in
+    omega (arith, pre .0, pre .1, n)
 
 returns : tie.Need-returns Inv-loop μ-loop
 returns c =
-    unseen-seen (c .before .before .before .loop .inv) (c .before .before .loop-test .taken) (sym (c .before .is-inside .ensures) ∙ c .if1 .taken)
-    ∙ ap (λ n. some? n (λ k. bit (c .before .before .before .before .before .before .args .insides .now) (128 * c .before .before .before .before .before .before .args .s + k))) (c .before .before .before .before .vertex-count .ensures)
-
-add-v : tie.Need-add-v Inv-loop μ-loop
-add-v c = omega arith
-
-loop-less : tie.Need-loop-less Inv-loop μ-loop
-loop-less c = omega arith
+    let loop-test = c .before .before .loop-test in
+    let at-loop = c .before .before .before in
+    let at-vertex-count = at-loop .before in
+    let a = at-vertex-count .before .before .args in
+    unseen-seen (at-loop .loop .inv) (loop-test .taken) (sym (c .before .is-inside .ensures) ∙ c .if1 .taken)
+    ∙ ap (λ n. some? n (isInside (a .insides .now) (a .k))) (at-vertex-count .vertex-count .ensures)
 
 loop-again : tie.Need-loop-again Inv-loop μ-loop
-loop-again c = unseen-more (c .before .before .before .loop .inv) (c .before .before .loop-test .taken) (sym (c .before .is-inside .ensures) ∙ c .if1 .left)
+loop-again c =
+    let loop-test = c .before .before .loop-test in
+    let inv = c .before .before .before .loop .inv in
+    unseen-more inv (loop-test .taken) (sym (c .before .is-inside .ensures) ∙ c .if1 .left)
 
 returns-2 : tie.Need-returns-2 Inv-loop μ-loop
 returns-2 c =
+    let vertex-count = c .before .before .vertex-count in
+    let a = c .before .before .before .before .args in
     unseen-all (c .before .loop .inv) (c .loop-test .left)
-    ∙ ap (λ n. some? n (λ k. bit (c .before .before .before .before .args .insides .now) (128 * c .before .before .before .before .args .s + k))) (c .before .before .vertex-count .ensures)
+    ∙ ap (λ n. some? n (isInside (a .insides .now) (a .k))) (vertex-count .ensures)
 
 pub has-vertex-spec : {M : Type 1} → statement M
 has-vertex-spec =
@@ -48,11 +51,11 @@ has-vertex-spec =
     (tie.spec
     Inv-loop
     μ-loop
-    vertex-count-requires
+    (λ c κs. tt)
     loop-holds
     is-inside-requires
     returns
-    add-v
-    loop-less
+    (λ c. omega arith)
+    (λ c. omega arith)
     loop-again
     returns-2)

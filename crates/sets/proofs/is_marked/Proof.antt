@@ -1,26 +1,17 @@
 -- The edge's bit stands in one of the set's 16 words.
-use Prim.Native.Nat.{_*_}
-use mathlib.Core.Path.{_∙_}
-use Rattle.sets.proofs.Marks.{mark-place}
+use Prim.Native.Nat.{_+_, _*_}
+use mathlib.Core.Path.{_≡_, ap, _∙_}
+use Rattle.dual.specs.Prices.{bit}
 use native.Mathlib.Omega.{arith}
 use borrow.Author.Needs.{needs}
 use Rattle.sets.proofs.is_marked.Statement.{statement}
 use Rattle.sets.proofs.is_marked.Tie as tie
 
-mul-bit-at : tie.Need-mul-bit-at
-mul-bit-at c = search needs
-
-add-bit-at : tie.Need-add-bit-at
-add-bit-at c = search needs
-
-cast-bit-at : tie.Need-cast-bit-at
-cast-bit-at c = search needs
-
-bit-at-requires : tie.Need-bit-at-requires
-bit-at-requires c κs = search needs
-
 returns : tie.Need-returns
-returns c = c .bit-at .ensures ∙ mark-place (c .before .before .args .markings .now) (16 * c .before .before .args .s) (1024 * c .before .before .args .s) (c .before .before .args .e) (omega arith)
+returns c =
+    let a = c .before .before .args in
+    let e : 64 * (16 * a .k) + a .e ≡ 1024 * a .k + a .e = omega arith in
+    c .bit-at .ensures ∙ ap (bit (a .markings .now)) e
 
 pub is-marked-spec : {M : Type 1} → statement M
-is-marked-spec = tie.close (tie.spec mul-bit-at add-bit-at cast-bit-at bit-at-requires returns)
+is-marked-spec = tie.close (tie.spec (λ c. search needs) (λ c κs. search needs) returns)

@@ -1,67 +1,54 @@
 -- By the first rule that is broken.
 use mathlib.Core.List.{[]}
 use mathlib.Core.Path.{sym, _∙_}
+use Rattle.graph.specs.Graph.{Graph, graphOf}
+use Rattle.dual.specs.Prices.{Prices, pricesOf}
 use borrow.Author.Tests.{not-true, not-false}
-use Rattle.graph.specs.Graph.{Graph}
-use Rattle.dual.specs.Prices.{Prices}
-use Rattle.checks.specs.Checks.{graphOf}
-use Rattle.sets.specs.Lent.{marksOf}
-use Rattle.sets.proofs.Marks.{above-breaks, vertex-breaks, ends-break, load-decides}
+use Rattle.sets.proofs.Marks.{above-breaks, vertex-breaks, ends-decide}
 use borrow.Author.Needs.{needs}
 use Rattle.sets.proofs.keeps_rules.Statement.{statement}
 use Rattle.sets.proofs.keeps_rules.Tie as tie
 
 abbrev g : tie.Start → Graph
-g c = graphOf (c .args .kind) (c .args .rows) (c .args .columns) (c .args .edges) (c .args .row .now) (c .args .column .now) []
+g c = graphOf (c .args .s) (c .args .row .now) (c .args .column .now) []
 
 abbrev P : tie.Start → Prices
-P c = marksOf (c .args .insides .now) (c .args .markings .now)
-
-nothing-above-requires : tie.Need-nothing-above-requires
-nothing-above-requires c κs = search needs
+P c = pricesOf [] [] 0 [] (c .args .insides .now) (c .args .markings .now)
 
 returns : tie.Need-returns
-returns c = above-breaks (g (c .before .before .before .before .before .before)) (c .before .before .before .before .before .before .args .bound .now) (P (c .before .before .before .before .before .before)) (c .before .before .before .before .before .before .args .s) (sym (c .before .nothing-above .ensures) ∙ not-true (c .before .nothing-above .result) (c .if1 .taken))
-
-has-vertex-requires : tie.Need-has-vertex-requires
-has-vertex-requires c κs = search needs
+returns c =
+    let s = c .before .before .before .before .before .before in
+    let a = c .before .nothing-above in
+    above-breaks (g s) (P s) (s .args .k) (s .args .load) (sym (a .ensures) ∙ not-true (a .result) (c .if1 .taken))
 
 returns-2 : tie.Need-returns-2
 returns-2 c =
-    vertex-breaks (g (c .before .before .before .before .before .before .before .before)) (c .before .before .before .before .before .before .before .before .args .bound .now) (P (c .before .before .before .before .before .before .before .before)) (c .before .before .before .before .before .before .before .before .args .s)
-    (sym (c .before .before .before .nothing-above .ensures) ∙ not-false (c .before .before .before .nothing-above .result) (c .before .before .if1 .left))
-    (sym (c .before .has-vertex .ensures) ∙ not-true (c .before .has-vertex .result) (c .if2 .taken))
-
-one-end-inside-requires : tie.Need-one-end-inside-requires
-one-end-inside-requires c κs = search needs
+    let if1 = c .before .before .if1 in
+    let s = c .before .before .before .before .before .before .before .before in
+    let a = c .before .before .before .nothing-above in
+    let v = c .before .has-vertex in
+    vertex-breaks (g s) (P s) (s .args .k) (s .args .load) (sym (a .ensures) ∙ not-false (a .result) (if1 .left))
+    (sym (v .ensures) ∙ not-true (v .result) (c .if2 .taken))
 
 returns-3 : tie.Need-returns-3
 returns-3 c =
-    ends-break (g (c .before .before .before .before .before .before .before .before .before .before)) (c .before .before .before .before .before .before .before .before .before .before .args .bound .now) (P (c .before .before .before .before .before .before .before .before .before .before)) (c .before .before .before .before .before .before .before .before .before .before .args .s)
-    (sym (c .before .before .before .before .before .nothing-above .ensures) ∙ not-false (c .before .before .before .before .before .nothing-above .result) (c .before .before .before .before .if1 .left))
-    (sym (c .before .before .before .has-vertex .ensures) ∙ not-false (c .before .before .before .has-vertex .result) (c .before .before .if2 .left))
-    (sym (c .before .one-end-inside .ensures) ∙ not-true (c .before .one-end-inside .result) (c .if3 .taken))
-
-load-requires : tie.Need-load-requires
-load-requires c κs = search needs
-
-returns-4 : tie.Need-returns-4
-returns-4 c =
-    load-decides (g (c .before .before .before .before .before .before .before .before .before .before .before)) (c .before .before .before .before .before .before .before .before .before .before .before .args .bound .now) (P (c .before .before .before .before .before .before .before .before .before .before .before)) (c .before .before .before .before .before .before .before .before .before .before .before .args .s)
-    (sym (c .before .before .before .before .before .before .nothing-above .ensures) ∙ not-false (c .before .before .before .before .before .before .nothing-above .result) (c .before .before .before .before .before .if1 .left))
-    (sym (c .before .before .before .before .has-vertex .ensures) ∙ not-false (c .before .before .before .before .has-vertex .result) (c .before .before .before .if2 .left))
-    (sym (c .before .before .one-end-inside .ensures) ∙ not-false (c .before .before .one-end-inside .result) (c .before .if3 .left))
-    (c .load .ensures .0)
+    let if2 = c .before .before .if2 in
+    let at-if1 = c .before .before .before .before in
+    let s = at-if1 .before .before .before .before .before .before in
+    let a = at-if1 .before .nothing-above in
+    let v = c .before .before .before .has-vertex in
+    c .both .ensures
+    ∙ ends-decide (g s) (P s) (s .args .k) (s .args .load) (sym (a .ensures) ∙ not-false (a .result) (at-if1 .if1 .left))
+    (sym (v .ensures) ∙ not-false (v .result) (if2 .left)) (sym (c .before .one-end-inside .ensures))
 
 pub keeps-rules-spec : {M : Type 1} → statement M
 keeps-rules-spec =
     tie.close
     (tie.spec
-    nothing-above-requires
+    (λ c κs. search needs)
     returns
-    has-vertex-requires
+    (λ c κs. search needs)
     returns-2
-    one-end-inside-requires
-    returns-3
-    load-requires
-    returns-4)
+    (λ c κs. search needs)
+    (λ c κs. search needs)
+    returns-3)

@@ -1,50 +1,50 @@
--- The loop keeps: every odd set before s is one of the first 16 and keeps the rules.
-use Prim.Native.Nat.{_-_, _<_, min}
+-- The loop keeps: every odd set before k is one of the first 16 and keeps the rules.
+use Prim.Native.Nat.{_-_, min}
 use mathlib.Core.Bool.{_&&_}
 use mathlib.Core.List.{[]}
 use mathlib.Core.Path.{sym, _∙_}
 use lib.Dec.{ltb}
-use Rattle.dual.specs.Sets.{keepsRules}
-use Rattle.checks.specs.Checks.{graphOf}
+use lib.ListN.{getD}
+use Rattle.graph.specs.Graph.{graphOf}
+use Rattle.dual.specs.Prices.{pricesOf}
 use Rattle.checks.proofs.Scan.{Kept, kept-none, kept-more, kept-broken, kept-all}
-use Rattle.sets.specs.Lent.{marksOf}
-use Rattle.sets.proofs.Fit.{words-fit}
+use Rattle.sets.specs.Words.{keepsRulesBy}
 use native.Mathlib.Omega.{arith}
 use Rattle.sets.proofs.lowest_set.Statement.{statement}
 use Rattle.sets.proofs.lowest_set.Tie as tie
 
 abbrev Inv-loop : tie.InvT-loop
-Inv-loop kind rows columns edges row column bound sets insides markings count s₀ s = Kept (min sets 17) (λ k. ltb k 16 && keepsRules (graphOf kind rows columns edges row column []) bound (marksOf insides markings) k) s
+Inv-loop s row column load sets insides markings count k₀ k =
+    Kept (min sets 17) (λ j. ltb j 16 && keepsRulesBy (graphOf s row column []) (pricesOf [] [] 0 [] insides markings) j (getD load j 0)) k
 
 abbrev μ-loop : tie.MeasureT-loop
-μ-loop kind rows columns edges row column bound sets insides markings count s₀ s = count - s
-
-tested-requires : tie.Need-tested-requires Inv-loop μ-loop
-tested-requires c κs = tt
+μ-loop s row column load sets insides markings count k₀ k = count - k
 
 loop-holds : tie.Need-loop-holds Inv-loop μ-loop
 loop-holds c = kept-none
 
 is-allowed-requires : tie.Need-is-allowed-requires Inv-loop μ-loop
 is-allowed-requires c κs =
-    let p = c .before .before .before .before .before .before .before .pre .1 .1 in
-    let l : c .before .loop .s < c .before .before .before .before .before .before .before .args .sets = omega (arith, c .before .before .tested .ensures) in
-    (c .before .before .before .before .before .before .before .pre .0, (c .before .before .before .before .before .before .before .pre .1 .0, (p .0, words-fit (c .before .before .before .before .before .before .before .args .insides .now) (c .before .before .before .before .before .before .before .args .markings .now) (p .1) (p .2) l)))
-
-add-s : tie.Need-add-s Inv-loop μ-loop
-add-s c = omega arith
-
-loop-less : tie.Need-loop-less Inv-loop μ-loop
-loop-less c = omega arith
+    let p = c .before .before .before .before .before .before .before .pre in
+    let n = c .before .before .up-to .ensures in
+    (p .0, (omega (arith, p .1 .0, n), omega (arith, p .1 .1, n)))
 
 loop-again : tie.Need-loop-again Inv-loop μ-loop
-loop-again c = kept-more (c .before .before .before .loop .inv) (omega (arith, c .before .before .before .before .tested .ensures)) (sym (c .before .is-allowed .ensures) ∙ c .if1 .taken)
+loop-again c =
+    let at-loop = c .before .before .before in
+    let up-to = at-loop .before .up-to in
+    kept-more (at-loop .loop .inv) (omega (arith, up-to .ensures)) (sym (c .before .is-allowed .ensures) ∙ c .if1 .taken)
 
 returns : tie.Need-returns Inv-loop μ-loop
-returns c = kept-broken (c .before .before .before .loop .inv) (omega (arith, c .before .before .before .before .tested .ensures)) (sym (c .before .is-allowed .ensures) ∙ c .if1 .left)
+returns c =
+    let at-loop = c .before .before .before in
+    let up-to = at-loop .before .up-to in
+    kept-broken (at-loop .loop .inv) (omega (arith, up-to .ensures)) (sym (c .before .is-allowed .ensures) ∙ c .if1 .left)
 
 returns-2 : tie.Need-returns-2 Inv-loop μ-loop
-returns-2 c = kept-all (c .before .loop .inv) (omega (arith, c .before .before .tested .ensures))
+returns-2 c =
+    let up-to = c .before .before .up-to in
+    kept-all (c .before .loop .inv) (omega (arith, up-to .ensures))
 
 pub lowest-set-spec : {M : Type 1} → statement M
 lowest-set-spec =
@@ -52,11 +52,12 @@ lowest-set-spec =
     (tie.spec
     Inv-loop
     μ-loop
-    tested-requires
+    (λ c. omega arith)
+    (λ c κs. tt)
     loop-holds
     is-allowed-requires
-    add-s
-    loop-less
+    (λ c. omega arith)
+    (λ c. omega arith)
     loop-again
     returns
     returns-2)

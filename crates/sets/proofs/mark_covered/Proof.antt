@@ -1,44 +1,29 @@
--- By whether the set covers the edge.
-use mathlib.Core.Bool.{Bool}
-use mathlib.Core.List.{[]}
-use mathlib.Core.Path.{refl, sym, _∙_}
-use native.Mathlib.Nat.{mul-comm}
-use lib.ListN.{getD}
+-- By whether the edge is chosen.
+use Prim.Native.Nat.{_*_}
+use mathlib.Core.Path.{_≡_, sym, ap, _∙_}
+use native.Mathlib.Nat.{zero-mul, one-mul}
 use Rattle.dual.specs.Prices.{one}
-use Rattle.dual.specs.Sets.{covers}
-use Rattle.checks.specs.Checks.{graphOf}
-use Rattle.sets.specs.Lent.{marksOf}
-use Rattle.sets.proofs.Marks.{kept-times, dropped-times}
+use Rattle.sets.specs.Words.{coversBy}
 use native.Mathlib.Omega.{arith}
 use borrow.Author.Needs.{needs}
 use Rattle.sets.proofs.mark_covered.Statement.{statement}
 use Rattle.sets.proofs.mark_covered.Tie as tie
 
-abbrev covering : tie.Start → Bool
-covering c =
-    covers (graphOf (c .args .kind) (c .args .rows) 0 0 (c .args .row .now) (c .args .column .now) [])
-    (marksOf (c .args .insides .now) (c .args .markings .now)) (c .args .s) (c .args .e)
-
-covers-edge-requires : tie.Need-covers-edge-requires
-covers-edge-requires c κs = search needs
-
-shared-slice-read-result : tie.Need-shared-slice-read-result
-shared-slice-read-result c = search needs
-
-cast-result : tie.Need-cast-result
-cast-result c = search needs
-
 returns : tie.Need-returns
 returns c =
-    let x = getD (c .before .before .before .before .before .before .before .before .args .chosen .now) (c .before .before .before .before .before .before .before .before .args .e) 0 in
-    (kept-times (covering (c .before .before .before .before .before .before .before .before)) (sym (c .before .before .covers-edge .ensures) ∙ c .before .if1 .taken) refl ∙ mul-comm (one (covering (c .before .before .before .before .before .before .before .before))) x, omega arith)
+    let a = c .before .before .before .args in
+    let n = one (coversBy (a .insides .now) (a .markings .now) (a .k) (a .e) (a .ends .first) (a .ends .second)) in
+    (sym (ap (λ m. m * n) (c .if1 .taken) ∙ zero-mul n), omega arith)
 
 returns-2 : tie.Need-returns-2
 returns-2 c =
-    let x = getD (c .before .before .before .before .before .before .before .args .chosen .now) (c .before .before .before .before .before .before .before .args .e) 0 in
-    (dropped-times (covering (c .before .before .before .before .before .before .before)) x (sym (c .before .covers-edge .ensures) ∙ c .if1 .left) ∙ mul-comm (one (covering (c .before .before .before .before .before .before .before))) x, omega arith)
+    let if1 = c .before .before .if1 in
+    let start = c .before .before .before .before .before in
+    let a = start .args in
+    let n = one (coversBy (a .insides .now) (a .markings .now) (a .k) (a .e) (a .ends .first) (a .ends .second)) in
+    let e : a .mark ≡ 1 = omega (arith, start .pre .0 .3, if1 .left) in
+    (c .number .ensures .0 ∙ ap one (c .before .covers-edge .ensures) ∙ sym (ap (λ m. m * n) e ∙ one-mul n), c .number .ensures .1)
 
 pub mark-covered-spec : {M : Type 1} → statement M
 mark-covered-spec =
-    tie.close
-    (tie.spec covers-edge-requires shared-slice-read-result cast-result returns returns-2)
+    tie.close (tie.spec returns (λ c κs. search needs) (λ c κs. search needs) (λ c. search needs) returns-2)

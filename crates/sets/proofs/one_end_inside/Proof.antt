@@ -4,41 +4,62 @@ use mathlib.Core.Bool.{not, _||_}
 use mathlib.Core.List.{[]}
 use mathlib.Core.Path.{sym, ap, _∙_}
 use lib.Dec.{eqb}
-use Rattle.dual.specs.Prices.{marked}
+use lib.ListN.{length}
+use Rattle.graph.specs.Graph.{graphOf}
+use Rattle.dual.specs.Prices.{pricesOf}
 use Rattle.dual.specs.Sets.{endsInside}
-use Rattle.checks.specs.Checks.{graphOf}
-use Rattle.sets.specs.Lent.{marksOf}
-use Rattle.sets.proofs.Loops.{Unseen, unseen-none, unseen-more, unseen-seen, unseen-all}
+use Rattle.sets.specs.Words.{isMarked}
+use Rattle.sets.proofs.Edges.{ends-least, ends-within, keeps-at}
+use Rattle.checks.proofs.Scan.{Unseen, unseen-none, unseen-more, unseen-seen, unseen-all}
 use native.Mathlib.Omega.{arith}
 use Rattle.sets.proofs.one_end_inside.Statement.{statement}
 use Rattle.sets.proofs.one_end_inside.Tie as tie
 
 abbrev Inv-loop : tie.InvT-loop
-Inv-loop kind rows edges row column insides markings s m e₀ e = Unseen m (λ k. not (not (marked (marksOf insides markings) s k) || eqb (endsInside (graphOf kind rows 0 0 row column []) (marksOf insides markings) s k) 1)) e
+Inv-loop s row column insides markings k e₀ e =
+    Unseen (s .edges)
+    (λ e. not (not (isMarked markings k e) || eqb (endsInside (graphOf s row column []) (pricesOf [] [] 0 [] insides markings) k e) 1)) e
 
 abbrev μ-loop : tie.MeasureT-loop
-μ-loop kind rows edges row column insides markings s m e₀ e = m - e
+μ-loop s row column insides markings k e₀ e = length row - e
 
 loop-holds : tie.Need-loop-holds Inv-loop μ-loop
 loop-holds c = unseen-none
 
+shared-slice-read-ends-of-2 : tie.Need-shared-slice-read-ends-of-2 Inv-loop μ-loop
+shared-slice-read-ends-of-2 c =
+    let S = c .before .before .before .before .before .before .before .before .pre .0 in
+    omega (arith, S .rowLong, S .columnLong)
+
+ends-of-requires : tie.Need-ends-of-requires Inv-loop μ-loop
+ends-of-requires c κs = let S = c .before .before .before .before .before .before .before .before .pre .0 in ends-least S (omega (arith, S .rowLong))
+
 edge-keeps-requires : tie.Need-edge-keeps-requires Inv-loop μ-loop
-edge-keeps-requires c κs = (c .before .before .before .before .before .before .pre .0, (omega (arith, c .before .before .before .before .before .before .pre .1 .0), c .before .before .before .before .before .before .pre .1 .1))
-
-add-e : tie.Need-add-e Inv-loop μ-loop
-add-e c = omega arith
-
-loop-less : tie.Need-loop-less Inv-loop μ-loop
-loop-less c = omega arith
+edge-keeps-requires c κs =
+    let pre = c .before .before .before .before .before .before .before .before .before .pre in
+    let S = pre .0 in
+    (ends-within S (omega (arith, S .rowLong)) (c .ends-of .ensures), pre .1)
 
 loop-again : tie.Need-loop-again Inv-loop μ-loop
-loop-again c = unseen-more (c .before .before .before .loop .inv) (c .before .before .loop-test .taken) (ap not (sym (c .before .edge-keeps .ensures) ∙ c .if1 .taken))
+loop-again c =
+    let ends-of = c .before .before .ends-of in
+    let at-loop = c .before .before .before .before .before .before in
+    let S = at-loop .before .before .before .before .before in
+    let k = keeps-at (S .args .insides .now) (S .args .markings .now) (S .args .k) (at-loop .loop .e) (ends-of .ensures) (c .before .edge-keeps .ensures) in
+    unseen-more (at-loop .loop .inv) (omega (arith, S .pre .0 .rowLong)) (ap not (sym k ∙ c .if1 .taken))
 
 returns : tie.Need-returns Inv-loop μ-loop
-returns c = ap not (unseen-seen (c .before .before .before .loop .inv) (c .before .before .loop-test .taken) (ap not (sym (c .before .edge-keeps .ensures) ∙ c .if1 .left)))
+returns c =
+    let ends-of = c .before .before .ends-of in
+    let at-loop = c .before .before .before .before .before .before in
+    let S = at-loop .before .before .before .before .before in
+    let k = keeps-at (S .args .insides .now) (S .args .markings .now) (S .args .k) (at-loop .loop .e) (ends-of .ensures) (c .before .edge-keeps .ensures) in
+    ap not (unseen-seen (at-loop .loop .inv) (omega (arith, S .pre .0 .rowLong)) (ap not (sym k ∙ c .if1 .left)))
 
 returns-2 : tie.Need-returns-2 Inv-loop μ-loop
-returns-2 c = ap not (unseen-all (c .before .loop .inv) (c .loop-test .left))
+returns-2 c =
+    let pre = c .before .before .before .before .before .before .pre in
+    ap not (unseen-all (c .before .loop .inv) (omega (arith, pre .0 .rowLong)))
 
 pub one-end-inside-spec : {M : Type 1} → statement M
 one-end-inside-spec =
@@ -47,9 +68,14 @@ one-end-inside-spec =
     Inv-loop
     μ-loop
     loop-holds
+    (λ c. omega arith)
+    (λ c. omega arith)
+    (λ c. omega arith)
+    shared-slice-read-ends-of-2
+    ends-of-requires
     edge-keeps-requires
-    add-e
-    loop-less
+    (λ c. omega arith)
+    (λ c. omega arith)
     loop-again
     returns
     returns-2)

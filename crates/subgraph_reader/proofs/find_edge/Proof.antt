@@ -1,17 +1,16 @@
 -- The loop keeps: no edge before e has the row and the column.
 use Prim.Native.Nat.{_-_}
 use mathlib.Core.Path.{sym, ap, _∙_}
-use mathlib.Core.Bool.{not}
+use mathlib.Core.Bool.{not, _&&_}
+use lib.Dec.{eqb}
 use native.Mathlib.Omega.{arith}
-use lib.ListN.{length}
-use Rattle.graph.specs.Graph.{joins}
-use Rattle.checks.specs.Checks.{endsOf}
+use lib.ListN.{length, getD}
 use Rattle.checks.proofs.Scan.{Kept, kept-none, kept-more, kept-broken, kept-all}
 use Rattle.subgraph_reader.proofs.find_edge.Statement.{statement}
 use Rattle.subgraph_reader.proofs.find_edge.Tie as tie
 
 abbrev Inv-loop : tie.InvT-loop
-Inv-loop row column r c e₀ e = Kept (length row) (λ k. not (joins (endsOf row column) r c k)) e
+Inv-loop row column r c e₀ e = Kept (length row) (λ k. not (eqb (getD row k 0) r && eqb (getD column k 0) c)) e
 
 abbrev μ-loop : tie.MeasureT-loop
 μ-loop row column r c e₀ e = length row - e
@@ -19,32 +18,17 @@ abbrev μ-loop : tie.MeasureT-loop
 loop-holds : tie.Need-loop-holds Inv-loop μ-loop
 loop-holds c = kept-none
 
-mul-both : tie.Need-mul-both Inv-loop μ-loop
-mul-both c = omega arith
-
-shared-slice-read-both : tie.Need-shared-slice-read-both Inv-loop μ-loop
-shared-slice-read-both c = omega arith
-
-mul-both-2 : tie.Need-mul-both-2 Inv-loop μ-loop
-mul-both-2 c = omega arith
-
-shared-slice-read-both-2 : tie.Need-shared-slice-read-both-2 Inv-loop μ-loop
-shared-slice-read-both-2 c = omega arith
-
-both-requires : tie.Need-both-requires Inv-loop μ-loop
-both-requires c κs = tt
-
 returns : tie.Need-returns Inv-loop μ-loop
-returns c = kept-broken (c .before .before .before .before .before .loop .inv) (c .before .before .before .before .loop-test .taken) (ap not (sym (c .before .both .ensures) ∙ c .if1 .taken))
-
-add-e : tie.Need-add-e Inv-loop μ-loop
-add-e c = omega arith
-
-loop-less : tie.Need-loop-less Inv-loop μ-loop
-loop-less c = omega arith
+returns c =
+    let at-loop-test = c .before .before .before .before in
+    let inv = at-loop-test .before .loop .inv in
+    kept-broken inv (at-loop-test .loop-test .taken) (ap not (sym (c .before .both .ensures) ∙ c .if1 .taken))
 
 loop-again : tie.Need-loop-again Inv-loop μ-loop
-loop-again c = kept-more (c .before .before .before .before .before .loop .inv) (c .before .before .before .before .loop-test .taken) (ap not (sym (c .before .both .ensures) ∙ c .if1 .left))
+loop-again c =
+    let at-loop-test = c .before .before .before .before in
+    let inv = at-loop-test .before .loop .inv in
+    kept-more inv (at-loop-test .loop-test .taken) (ap not (sym (c .before .both .ensures) ∙ c .if1 .left))
 
 returns-2 : tie.Need-returns-2 Inv-loop μ-loop
 returns-2 c = kept-all (c .before .loop .inv) (c .loop-test .left)
@@ -56,13 +40,13 @@ find-edge-spec =
     Inv-loop
     μ-loop
     loop-holds
-    mul-both
-    shared-slice-read-both
-    mul-both-2
-    shared-slice-read-both-2
-    both-requires
+    (λ c. omega arith)
+    (λ c. omega arith)
+    (λ c. omega arith)
+    (λ c. omega arith)
+    (λ c κs. tt)
     returns
-    add-e
-    loop-less
+    (λ c. omega arith)
+    (λ c. omega arith)
     loop-again
     returns-2)

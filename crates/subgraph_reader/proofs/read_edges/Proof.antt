@@ -1,65 +1,117 @@
--- The loop of `read_edges` keeps a `Turn`; each turn moves the cursor on.
+-- The loop of `read_edges` keeps a `MarkTurn`; each turn moves the cursor on.
 use Prim.Native.Nat.{_+_, _-_}
-use mathlib.Core.Path.{refl, _∙_}
+use mathlib.Core.Path.{sym, _∙_}
+use mathlib.Core.List.{[]}
 use native.Mathlib.Omega.{arith}
 use lib.ListN.{length}
 use borrow.Author.Needs.{needs}
-use borrow.Author.Tests.{ltb-true}
-use Rattle.checks.specs.Checks.{graphOf}
-use Rattle.layout.specs.Lines.{reading}
-use Rattle.layout.specs.SubgraphText.{subgraphLayout}
-use Rattle.phases.specs.Phase.{from}
-use Rattle.subgraph_reader.specs.Turn.{marked}
-use Rattle.subgraph_reader.proofs.Marks.{Turn, turn-done, turn-refused, turn-takes, taken}
+use Rattle.graph.specs.Graph.{graphOf}
+use Rattle.lines.proofs.Walk.{later-found}
+use Rattle.subgraph_reader.proofs.Marks.{MarkTurn, turn-done, turn-refused, turn-below, turn-stops, turn-takes, choice-inside}
 use Rattle.subgraph_reader.proofs.read_edges.Statement.{statement}
 use Rattle.subgraph_reader.proofs.read_edges.Tie as tie
 
 abbrev Inv-loop : tie.InvT-loop
-Inv-loop text kind rows columns row column count chosen₀ c₀ came₀ chosen c came =
-    Turn (λ w. graphOf kind rows columns (length row) row column w) text (length chosen₀) count
-    (λ w. from (subgraphLayout (graphOf kind rows columns (length row) row column w)) text (reading (marked count 0 chosen₀)) c₀) chosen c came
+Inv-loop text s row column count chosen₀ c₀ came₀ chosen c came = MarkTurn (graphOf s row column []) text count chosen c came
 
 abbrev μ-loop : tie.MeasureT-loop
-μ-loop text kind rows columns row column count chosen₀ c₀ came₀ chosen c came = length text + 1 - c .at
+μ-loop text s row column count chosen₀ c₀ came₀ chosen c came = length text + 1 - c .at
 
 loop-holds : tie.Need-loop-holds Inv-loop μ-loop
-loop-holds c = record { reached = c .before .before .before .before .pre .0; whole = λ w. refl; room = omega arith; long = refl }
+loop-holds c =
+    let pre = c .before .before .before .before .pre in
+    record { walk = pre .0; room = omega arith; long = pre .1 .2 }
 
-next-edge-requires : tie.Need-next-edge-requires Inv-loop μ-loop
-next-edge-requires c κs = (c .before .loop .inv .reached, (c .before .before .before .before .before .before .pre .1 .0, c .before .loop .inv .long ∙ c .before .before .before .before .before .before .pre .1 .1))
-
-enum-known-edge : tie.Need-enum-known-edge Inv-loop μ-loop
-enum-known-edge c = search needs
-
-slice-write-chosen : tie.Need-slice-write-chosen Inv-loop μ-loop
-slice-write-chosen c = let t = taken (c .before .before .before .next-edge .ensures .1) (c .before .edge .given .1) in omega (arith, t .inside, c .before .before .before .before .before .loop .inv .long, c .before .before .before .before .before .before .before .before .before .before .pre .1 .1)
-
-add-came : tie.Need-add-came Inv-loop μ-loop
-add-came c = let t = taken (c .before .before .before .next-edge .ensures .1) (c .before .edge .given .1) in omega (arith, ltb-true (c .before .before .before .before .before .loop .came) (c .before .before .before .before .before .before .before .before .before .before .args .count) (t .wanted))
-
-loop-less : tie.Need-loop-less Inv-loop μ-loop
-loop-less c = let t = taken (c .before .before .before .next-edge .ensures .1) (c .before .edge .given .1) in omega (arith, t .onward, t .reached .reach)
-
-loop-again : tie.Need-loop-again Inv-loop μ-loop
-loop-again c = turn-takes (c .before .before .before .before .before .loop .inv) (c .before .before .before .next-edge .ensures .0) (c .before .edge .given .1) (taken (c .before .before .before .next-edge .ensures .1) (c .before .edge .given .1))
-
-enum-told : tie.Need-enum-told Inv-loop μ-loop
-enum-told c = search needs
+later-line-requires : tie.Need-later-line-requires Inv-loop μ-loop
+later-line-requires c κs = c .loop .inv .walk .reached
 
 same-length : tie.Need-same-length Inv-loop μ-loop
-same-length c = c .before .before .before .before .loop .inv .long
+same-length c =
+    let at-loop = c .before .before .before in
+    let pre = at-loop .before .before .before .before .before .pre in
+    at-loop .loop .inv .long ∙ sym (pre .1 .2)
 
 returns : tie.Need-returns Inv-loop μ-loop
-returns c = turn-done (c .before .before .before .before .loop .inv) (c .before .before .next-edge .ensures .0) (c .enum-told .given .1)
-
-enum-known-r : tie.Need-enum-known-r Inv-loop μ-loop
-enum-known-r c = search needs
+returns c =
+    let later-line = c .before .before .later-line in
+    let inv = c .before .before .before .loop .inv in
+    turn-done inv (later-line .ensures) (c .enum-told .given .1)
 
 same-length-2 : tie.Need-same-length-2 Inv-loop μ-loop
-same-length-2 c = c .before .before .before .before .before .loop .inv .long
+same-length-2 c =
+    let at-loop = c .before .before .before .before in
+    let pre = at-loop .before .before .before .before .before .pre in
+    at-loop .loop .inv .long ∙ sym (pre .1 .2)
 
 returns-2 : tie.Need-returns-2 Inv-loop μ-loop
-returns-2 c = turn-refused (c .before .before .before .before .before .loop .inv) (c .before .before .before .next-edge .ensures .0) (c .before .r .given .1)
+returns-2 c =
+    let at-later-line = c .before .before .before in
+    let inv = at-later-line .before .loop .inv in
+    turn-refused inv (at-later-line .later-line .ensures) (c .before .r .given .1)
+
+sub-edge-on : tie.Need-sub-edge-on Inv-loop μ-loop
+sub-edge-on c =
+    let later-line = c .before .before .before .later-line in
+    later-found (later-line .ensures) (c .before .start .given .1) .0 .forward
+
+part-edge-on-start : tie.Need-part-edge-on-start Inv-loop μ-loop
+part-edge-on-start c =
+    let later-line = c .before .before .before .later-line in
+    later-found (later-line .ensures) (c .before .start .given .1) .0 .forward
+
+part-edge-on-end : tie.Need-part-edge-on-end Inv-loop μ-loop
+part-edge-on-end c =
+    let later-line = c .before .before .before .later-line in
+    later-found (later-line .ensures) (c .before .start .given .1) .0 .ends
+
+edge-on-requires : tie.Need-edge-on-requires Inv-loop μ-loop
+edge-on-requires c κs =
+    let at-loop = c .before .before .before .before .before .before in
+    let pre = at-loop .before .before .before .before .before .pre in
+    (pre .1 .0, pre .1 .1, at-loop .loop .inv .long)
+
+same-length-3 : tie.Need-same-length-3 Inv-loop μ-loop
+same-length-3 c =
+    let at-loop = c .before .before .before .before .before .before .before .before .before .before .before in
+    let pre = at-loop .before .before .before .before .before .pre in
+    at-loop .loop .inv .long ∙ sym (pre .1 .2)
+
+returns-3 : tie.Need-returns-3 Inv-loop μ-loop
+returns-3 c =
+    let fault = c .before .before .fault in
+    let at-edge-on = c .before .before .before .before in
+    let at-start = at-edge-on .before .before .before .before in
+    let at-later-line = at-start .before .before in
+    let inv = at-later-line .before .loop .inv in
+    turn-stops inv (at-later-line .later-line .ensures) (at-start .start .given .1) (at-edge-on .edge-on .ensures .0) (fault .given .1) (c .refused-at .ensures)
+
+slice-write-chosen : tie.Need-slice-write-chosen Inv-loop μ-loop
+slice-write-chosen c =
+    let at-edge-on = c .before .before .before in
+    let inv = at-edge-on .before .before .before .before .before .before .before .loop .inv in
+    let l = choice-inside (at-edge-on .edge-on .ensures .1) (c .before .edge .given .1) in omega (arith, l, inv .long)
+
+add-came : tie.Need-add-came Inv-loop μ-loop
+add-came c =
+    let at-start = c .before .before .before .before .before .before .before in
+    let at-later-line = at-start .before .before in
+    let at-loop = at-later-line .before in
+    let fits = at-loop .before .before .before .before .before .fits in
+    let l = turn-below (at-loop .loop .inv) (at-later-line .later-line .ensures) (at-start .start .given .1) in omega (arith, l, fits .count)
+
+loop-less : tie.Need-loop-less Inv-loop μ-loop
+loop-less c =
+    let at-start = c .before .before .before .before .before .before .before in
+    let later-line = at-start .before .before .later-line in
+    let w = later-found (later-line .ensures) (at-start .start .given .1) .0 in omega (arith, w .onward, w .reached .reach)
+
+loop-again : tie.Need-loop-again Inv-loop μ-loop
+loop-again c =
+    let at-edge-on = c .before .before .before in
+    let at-start = at-edge-on .before .before .before .before in
+    let at-later-line = at-start .before .before in
+    let inv = at-later-line .before .loop .inv in
+    turn-takes inv (at-later-line .later-line .ensures) (at-start .start .given .1) (at-edge-on .edge-on .ensures .0) (c .before .edge .given .1)
 
 pub read-edges-spec : {M : Type 1} → statement M
 read-edges-spec =
@@ -68,15 +120,24 @@ read-edges-spec =
     Inv-loop
     μ-loop
     loop-holds
-    next-edge-requires
-    enum-known-edge
+    later-line-requires
+    (λ c. search needs)
+    same-length
+    returns
+    (λ c. search needs)
+    same-length-2
+    returns-2
+    (λ c. search needs)
+    sub-edge-on
+    part-edge-on-start
+    part-edge-on-end
+    edge-on-requires
+    (λ c. search needs)
+    (λ c κs. search needs)
+    same-length-3
+    returns-3
+    (λ c. search needs)
     slice-write-chosen
     add-came
     loop-less
-    loop-again
-    enum-told
-    same-length
-    returns
-    enum-known-r
-    same-length-2
-    returns-2)
+    loop-again)

@@ -1,71 +1,180 @@
--- `read_lines` ends with the phase that refuses, or with the last.
-use mathlib.Core.Path.{sym, _∙_}
-use lib.ListN.{length}
+-- `read_lines` reads the header and the size line, and then the later lines.
+use mathlib.Core.Path.{ap, _∙_}
+use mathlib.Core.List.{[]}
+use lib.ListN.{length, length-replicate}
 use denote.Ref.{now}
+use Rattle.graph.specs.declared.Fault.the-variants.{Header, Disagreement}
+use Rattle.graph.specs.Graph.{Graph, graphOf}
+use Rattle.layout.specs.SubgraphText.{subgraphLayout}
+use Rattle.lines.proofs.Walk.{opened-line, header-refused, header-goes, header-stops, size-refused, size-goes, size-stops}
+use Rattle.subgraph_reader.proofs.OnLine.{header-not, header-agrees, header-differs, size-says}
+use Rattle.subgraph_reader.proofs.Marks.{read-refused}
 use borrow.Author.Needs.{needs}
-use Rattle.phases.proofs.Turns.{phase-reached}
-use Rattle.subgraph_reader.proofs.Marks.{sizes-reached}
-use Rattle.subgraph_reader.proofs.Whole.{header-ends, sizes-end, edges-end}
 use Rattle.subgraph_reader.proofs.read_lines.Statement.{statement}
 use Rattle.subgraph_reader.proofs.read_lines.Tie as tie
 
-read-header-requires : tie.Need-read-header-requires
-read-header-requires c κs = search needs
+-- The graph of the parameters.
+abbrev graph : tie.Start → Graph
+graph s = graphOf (s .args .s) (now (s .args .row)) (now (s .args .column)) []
 
-enum-known-r : tie.Need-enum-known-r
-enum-known-r c = search needs
+sub-header-kind : tie.Need-sub-header-kind
+sub-header-kind c =
+    let header-line = c .before .before .before .header-line in
+    opened-line (header-line .ensures) (c .before .start .given .1) .forward
 
-enum-known-first : tie.Need-enum-known-first
-enum-known-first c = search needs
+part-header-kind-start : tie.Need-part-header-kind-start
+part-header-kind-start c =
+    let header-line = c .before .before .before .header-line in
+    opened-line (header-line .ensures) (c .before .start .given .1) .forward
 
-read-sizes-requires : tie.Need-read-sizes-requires
-read-sizes-requires c κs = phase-reached (c .before .before .before .read-header .ensures .1) (c .before .first .given .1)
-
-enum-known-r-2 : tie.Need-enum-known-r-2
-enum-known-r-2 c = search needs
-
-enum-known-count : tie.Need-enum-known-count
-enum-known-count c = search needs
-
-read-edges-requires : tie.Need-read-edges-requires
-read-edges-requires c κs =
-    let s = c .before .before .before .before .before .before .before .before .before .before .before .before .before in
-    let a = s .args in
-    (sizes-reached (c .before .before .before .before .read-sizes .ensures .1) (c .before .before .count .given .1), (s .pre .0 .1 ∙ sym (s .pre .0 .0), s .pre .0 .2 ∙ sym (s .pre .0 .0)))
+part-header-kind-end : tie.Need-part-header-kind-end
+part-header-kind-end c =
+    let header-line = c .before .before .before .header-line in
+    opened-line (header-line .ensures) (c .before .start .given .1) .ends
 
 returns : tie.Need-returns
 returns c =
-    let s = c .before .before .before .before .before .before .before .before in
-    let a = s .args in
-    header-ends (a .kind) (a .rows) (a .columns) (a .edges) (now (a .row)) (now (a .column)) (now (a .text)) (c .before .before .before .read-header .ensures .0) (length (now (a .chosen))) (now (a .chosen)) (c .before .r .given .1)
+    let at-header-kind = c .before .before .before in
+    let at-start = at-header-kind .before .before .before .before in
+    let at-header-line = at-start .before .before in
+    let start = at-header-line .before .before .before .before .before in
+    let g = graph start in
+    read-refused g _
+    (header-stops (subgraphLayout g) (at-header-line .header-line .ensures) (at-start .start .given .1) Header
+    (header-not g (at-header-kind .header-kind .ensures) (c .before .enum-told .given .1)) (c .refused-at .ensures))
 
 returns-2 : tie.Need-returns-2
 returns-2 c =
-    let s = c .before .before .before .before .before .before .before .before .before .before .before .before in
-    let a = s .args in
-    sizes-end (a .kind) (a .rows) (a .columns) (a .edges) (now (a .row)) (now (a .column)) (now (a .text)) (c .before .before .before .before .before .before .before .read-header .ensures .0) (c .before .before .before .before .before .first .given .1) (c .before .before .before .read-sizes .ensures .0) (length (now (a .chosen))) (now (a .chosen)) (c .before .r2 .given .1)
+    let same-kind = c .before .before .same-kind in
+    let at-kind = c .before .before .before .before in
+    let at-header-kind = at-kind .before .before in
+    let at-start = at-header-kind .before .before .before .before in
+    let at-header-line = at-start .before .before in
+    let start = at-header-line .before .before .before .before .before in
+    let g = graph start in
+    read-refused g _
+    (header-stops (subgraphLayout g) (at-header-line .header-line .ensures) (at-start .start .given .1) Disagreement
+    (header-differs g (at-header-kind .header-kind .ensures) (at-kind .kind .given .1) (same-kind .ensures) (c .before .if1 .taken))
+    (c .refused-at2 .ensures))
 
-same-length : tie.Need-same-length
-same-length c = search needs
+size-line-requires : tie.Need-size-line-requires
+size-line-requires c κs =
+    let at-start = c .before .before .before .before .before .before .before .before .before in
+    let header-line = at-start .before .before .header-line in
+    opened-line (header-line .ensures) (at-start .start .given .1) .reached
+
+sub-size-on : tie.Need-sub-size-on
+sub-size-on c =
+    let size-line = c .before .before .before .size-line in
+    opened-line (size-line .ensures) (c .before .start2 .given .1) .forward
+
+part-size-on-start : tie.Need-part-size-on-start
+part-size-on-start c =
+    let size-line = c .before .before .before .size-line in
+    opened-line (size-line .ensures) (c .before .start2 .given .1) .forward
+
+part-size-on-end : tie.Need-part-size-on-end
+part-size-on-end c =
+    let size-line = c .before .before .before .size-line in
+    opened-line (size-line .ensures) (c .before .start2 .given .1) .ends
+
+read-edges-requires : tie.Need-read-edges-requires
+read-edges-requires c κs =
+    let count = c .before .before .count in
+    let at-size-on = c .before .before .before .before in
+    let at-start2 = at-size-on .before .before .before in
+    let at-size-line = at-start2 .before .before in
+    let at-if1 = at-size-line .before in
+    let at-same-kind = at-if1 .before in
+    let at-kind = at-same-kind .before .before in
+    let at-header-kind = at-kind .before .before in
+    let at-start = at-header-kind .before .before .before .before in
+    let at-header-line = at-start .before .before in
+    let start = at-header-line .before .before .before .before .before in
+    let g = graph start in
+    let w = header-goes (subgraphLayout g) (at-header-line .header-line .ensures) (at-start .start .given .1) tt
+    (header-agrees g (at-header-kind .header-kind .ensures) (at-kind .kind .given .1) (at-same-kind .same-kind .ensures) (at-if1 .if1 .left)) in
+    let z = start .pre .1 in (
+      rw z
+          (size-goes (subgraphLayout g) w (at-size-line .size-line .ensures) (at-start2 .start2 .given .1) _
+          (size-says (start .args .s) (now (start .args .row)) (now (start .args .column)) _ (at-size-on .size-on .ensures) _ (count .given .1))),
+      (start .pre .0 .0, start .pre .0 .1, ap length z ∙ length-replicate (start .args .s .edges) 0),
+    )
 
 returns-3 : tie.Need-returns-3
 returns-3 c =
-    let s = c .before .before .before .before .before .before .before .before .before .before .before .before .before .before .before .before in
-    let a = s .args in
-    edges-end (a .kind) (a .rows) (a .columns) (a .edges) (now (a .row)) (now (a .column)) (now (a .text)) (c .before .before .before .before .before .before .before .before .before .before .before .read-header .ensures .0) (c .before .before .before .before .before .before .before .before .before .first .given .1) (c .before .before .before .before .before .before .before .read-sizes .ensures .0) (now (a .chosen)) (c .before .before .read-edges .result) (c .before .before .before .before .before .count .given .1) (s .pre .0 .0) (s .pre .0 .2) (s .pre .1) (c .before .before .read-edges .ensures)
+    let at-header-line = c .before .before .before in
+    let start = at-header-line .before .before .before .before .before in
+    let g = graph start in read-refused g _ (header-refused (subgraphLayout g) (at-header-line .header-line .ensures) (c .before .r .given .1))
+
+returns-4 : tie.Need-returns-4
+returns-4 c =
+    let at-size-line = c .before .before .before in
+    let at-if1 = at-size-line .before in
+    let at-same-kind = at-if1 .before in
+    let at-kind = at-same-kind .before .before in
+    let at-header-kind = at-kind .before .before in
+    let at-start = at-header-kind .before .before .before .before in
+    let at-header-line = at-start .before .before in
+    let start = at-header-line .before .before .before .before .before in
+    let g = graph start in
+    let w = header-goes (subgraphLayout g) (at-header-line .header-line .ensures) (at-start .start .given .1) tt
+    (header-agrees g (at-header-kind .header-kind .ensures) (at-kind .kind .given .1) (at-same-kind .same-kind .ensures) (at-if1 .if1 .left)) in
+    read-refused g _ (size-refused (subgraphLayout g) w (at-size-line .size-line .ensures) (c .before .r2 .given .1))
+
+returns-5 : tie.Need-returns-5
+returns-5 c =
+    let fault = c .before .before .fault in
+    let at-size-on = c .before .before .before .before in
+    let at-start2 = at-size-on .before .before .before in
+    let at-size-line = at-start2 .before .before in
+    let at-if1 = at-size-line .before in
+    let at-same-kind = at-if1 .before in
+    let at-kind = at-same-kind .before .before in
+    let at-header-kind = at-kind .before .before in
+    let at-start = at-header-kind .before .before .before .before in
+    let at-header-line = at-start .before .before in
+    let start = at-header-line .before .before .before .before .before in
+    let g = graph start in
+    let w = header-goes (subgraphLayout g) (at-header-line .header-line .ensures) (at-start .start .given .1) tt
+    (header-agrees g (at-header-kind .header-kind .ensures) (at-kind .kind .given .1) (at-same-kind .same-kind .ensures) (at-if1 .if1 .left)) in
+    read-refused g _
+    (size-stops (subgraphLayout g) w (at-size-line .size-line .ensures) (at-start2 .start2 .given .1) _
+    (size-says (start .args .s) (now (start .args .row)) (now (start .args .column)) _ (at-size-on .size-on .ensures) _ (fault .given .1))
+    (c .refused-at3 .ensures))
 
 pub read-lines-spec : {M : Type 1} → statement M
 read-lines-spec =
     tie.close
     (tie.spec
-    read-header-requires
-    enum-known-r
-    enum-known-first
-    read-sizes-requires
-    enum-known-r-2
-    enum-known-count
-    read-edges-requires
+    (λ c κs. search needs)
+    (λ c. search needs)
+    (λ c. search needs)
+    sub-header-kind
+    part-header-kind-start
+    part-header-kind-end
+    (λ c. search needs)
+    (λ c κs. search needs)
+    (λ c. search needs)
+    (λ c. search needs)
+    (λ c κs. search needs)
     returns
+    (λ c κs. search needs)
+    (λ c κs. search needs)
     returns-2
-    same-length
-    returns-3)
+    size-line-requires
+    (λ c. search needs)
+    (λ c. search needs)
+    sub-size-on
+    part-size-on-start
+    part-size-on-end
+    (λ c κs. search needs)
+    (λ c. search needs)
+    (λ c κs. search needs)
+    (λ c. search needs)
+    read-edges-requires
+    returns-3
+    returns-4
+    returns-5
+    (λ c. search needs)
+    (λ c. search needs))

@@ -1,49 +1,69 @@
--- The loop keeps: the total is the slack of the odd sets before s.
-use Prim.Native.Nat.{_-_}
-use mathlib.Core.List.{[]}
-use lib.IntN.{pos, _-ℤ_, _*ℤ_}
+-- The loop keeps: the total is the slack of the odd sets before k.
+use Prim.Native.Nat.{ℕ, _-_, _/_}
+use mathlib.Core.Path.{refl, ap₂, _∙_}
+use lib.IntN.{ℤ, pos, _-ℤ_, _*ℤ_}
 use lib.ListN.{getD}
-use Rattle.dual.specs.Sets.{capacity}
-use Rattle.checks.specs.Checks.{graphOf}
-use Rattle.sets.specs.Lent.{marksOf}
-use Rattle.sets.proofs.Fit.{words-fit}
-use Rattle.dual.specs.Gap.{chosenCovered}
 use mir.Syntax.{w64}
 use mir.Val.{toZ}
-use native.Mathlib.Omega.{arith}
-use Rattle.sets.proofs.Loops.{summedℤ-none}
+use Rattle.integers.proofs.Loops.{summedℤ-none}
+use Rattle.sums.proofs.Machine.{held-is, held-within}
 use Rattle.sums.proofs.Totals.{Adding, addable, added, added-all}
+use native.Mathlib.Omega.{arith}
 use Rattle.sums.proofs.set_slack.Statement.{statement}
 use Rattle.sums.proofs.set_slack.Tie as tie
 
 abbrev Inv-loop : tie.InvT-loop
-Inv-loop kind rows columns edges row column bound chosen sets set-price insides markings count total₀ s₀ total s = Adding (count) (λ k. getD set-price k (pos 0) *ℤ (pos (capacity (graphOf kind rows columns edges [] [] []) bound (marksOf insides markings) k) -ℤ pos (chosenCovered (graphOf kind rows 0 edges row column []) chosen (marksOf insides markings) k))) s (toZ w64 total)
+Inv-loop sets set-price load covered count total₀ k₀ total k =
+    Adding count (λ j. getD set-price j (pos 0) *ℤ (pos (getD load j 0 / 2) -ℤ pos (getD covered j 0))) k (toZ w64 total)
 
 abbrev μ-loop : tie.MeasureT-loop
-μ-loop kind rows columns edges row column bound chosen sets set-price insides markings count total₀ s₀ total s = count - s
+μ-loop sets set-price load covered count total₀ k₀ total k = count - k
 
 loop-holds : tie.Need-loop-holds Inv-loop μ-loop
 loop-holds c = summedℤ-none
 
-unused-price-requires : tie.Need-unused-price-requires Inv-loop μ-loop
-unused-price-requires c κs =
-    let p = c .before .before .before .before .before .before .before .pre .1 .1 in
-    (c .before .before .before .before .before .before .before .pre .0, (c .before .before .before .before .before .before .before .pre .1 .0, (omega (arith, p .price, c .loop-test .taken), words-fit (c .before .before .before .before .before .before .before .args .insides .now) (c .before .before .before .before .before .before .before .args .markings .now) (p .vertices) (p .edges) (c .loop-test .taken))))
+array-read-capacity : tie.Need-array-read-capacity Inv-loop μ-loop
+array-read-capacity c = omega (arith, c .before .before .pre .0 .0)
+
+element-requires : tie.Need-element-requires Inv-loop μ-loop
+element-requires c κs = omega (arith, c .before .before .before .pre .0 .1)
+
+array-read-price-of-rest : tie.Need-array-read-price-of-rest Inv-loop μ-loop
+array-read-price-of-rest c = omega (arith, c .before .before .before .before .pre .0 .0)
+
+price-of-rest-requires : tie.Need-price-of-rest-requires Inv-loop μ-loop
+price-of-rest-requires c κs =
+    let loop-test = c .before .before .loop-test in
+    let at-loop = c .before .before .before in
+    let pre = at-loop .before .pre in
+    let w = pre .1 (at-loop .loop .k) (loop-test .taken) in
+    let x = c .element in
+    (omega (arith, w .0, c .before .capacity .ensures), w .1, held-within (x .result) (x .ok) (x .ensures .1) (omega arith))
 
 add-requires : tie.Need-add-requires Inv-loop μ-loop
-add-requires c κs = addable (c .before .before .loop .inv) (c .unused-price .result) (omega (arith, c .before .before .before .before .before .before .before .before .pre .1 .1 .few)) (c .unused-price .ok) (c .unused-price .ensures .1)
-
-add-s : tie.Need-add-s Inv-loop μ-loop
-add-s c = omega arith
-
-loop-less : tie.Need-loop-less Inv-loop μ-loop
-loop-less c = omega arith
+add-requires c κs =
+    let at-loop = c .before .before .before .before in
+    let pre = at-loop .before .pre in
+    let x = c .price-of-rest in
+    addable (at-loop .loop .inv) (x .result) (omega (arith, pre .0 .0)) (x .ok) (x .ensures .1)
 
 loop-again : tie.Need-loop-again Inv-loop μ-loop
-loop-again c = added (c .before .before .before .loop .inv) (c .before .unused-price .result) (c .add .result) (c .before .before .loop-test .taken) (c .before .unused-price .ok) (c .add .ok) (c .before .unused-price .ensures) (c .add .ensures)
+loop-again c =
+    let at-capacity = c .before .before .before in
+    let at-loop-test = at-capacity .before in
+    let at-loop = at-loop-test .before in
+    let args = at-loop .before .args in
+    let x = c .before .price-of-rest in
+    let r = c .add in
+    let p = c .before .before .element in
+    let used = getD (args .t3) (at-loop .loop .k) 0 in
+    let is = ap₂ (λ (z : ℤ) (n : ℕ). z *ℤ (pos n -ℤ pos used)) (held-is (p .result) (p .ok) ∙ p .ensures .0) (at-capacity .capacity .ensures) in
+    added (at-loop .loop .inv) (x .result) (r .result) (at-loop-test .loop-test .taken) (x .ok) (r .ok) (x .ensures .0 ∙ is, x .ensures .1) (r .ensures)
 
 returns : tie.Need-returns Inv-loop μ-loop
-returns c = added-all (c .before .loop .inv) (c .loop-test .left) (omega (arith, c .before .before .before .before .before .before .before .pre .1 .1 .few))
+returns c =
+    let pre = c .before .before .pre in
+    added-all (c .before .loop .inv) (c .loop-test .left) (omega (arith, pre .0 .0)) refl
 
 pub set-slack-spec : {M : Type 1} → statement M
 set-slack-spec =
@@ -52,9 +72,15 @@ set-slack-spec =
     Inv-loop
     μ-loop
     loop-holds
-    unused-price-requires
+    (λ c. omega arith)
+    array-read-capacity
+    (λ c κs. tt)
+    element-requires
+    (λ c. omega arith)
+    array-read-price-of-rest
+    price-of-rest-requires
     add-requires
-    add-s
-    loop-less
+    (λ c. omega arith)
+    (λ c. omega arith)
     loop-again
     returns)

@@ -9,11 +9,10 @@ use Rattle.text.proofs.is_comment.Tie as tie
 returns : tie.Need-returns
 returns c = sym (comment-empty (now (c .before .args .line)) (c .if1 .taken))
 
-shared-slice-read-result : tie.Need-shared-slice-read-result
-shared-slice-read-result c = search needs
-
 returns-2 : tie.Need-returns-2
-returns-2 c = comment-at (now (c .before .before .args .line)) (c .before .if1 .left)
+returns-2 c =
+    let args = c .before .before .args in
+    comment-at (now (args .line)) (c .before .if1 .left)
 
 pub is-comment-spec : {M : Type 1} → statement M
-is-comment-spec = tie.close (tie.spec returns shared-slice-read-result returns-2)
+is-comment-spec = tie.close (tie.spec returns (λ c. search needs) returns-2)

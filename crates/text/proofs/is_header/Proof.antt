@@ -2,64 +2,61 @@
 use mathlib.Core.Path.{sym, _∙_}
 use denote.Ref.{now}
 use borrow.Author.Tests.{not-true, not-false}
+use Rattle.text.proofs.Pieces.{word-is, word-past}
 use Rattle.text.proofs.Headers.{header-blank, header-other, header-after, four-taken}
 use borrow.Author.Needs.{needs}
 use Rattle.text.proofs.is_header.Statement.{statement}
 use Rattle.text.proofs.is_header.Tie as tie
 
-word-first-requires : tie.Need-word-first-requires
-word-first-requires c κs = search needs
-
 returns : tie.Need-returns
-returns c = sym (header-blank _ (now (c .before .before .before .before .before .before .before .args .line)) (sym (c .before .word-first .ensures) ∙ not-true _ (c .if1 .taken)))
-
-word-requires : tie.Need-word-requires
-word-requires c κs = search needs
-
-slice-aggregate-same-word : tie.Need-slice-aggregate-same-word
-slice-aggregate-same-word c = search needs
-
-same-word-requires : tie.Need-same-word-requires
-same-word-requires c κs = search needs
+returns c =
+    let args = c .before .before .before .before .before .before .before .args in
+    sym (header-blank _ (now (args .line)) (sym (c .before .word-first .ensures) ∙ not-true _ (c .if1 .taken)))
 
 returns-2 : tie.Need-returns-2
-returns-2 c = header-other _ (now (c .before .before .before .before .before .before .before .before .before .before .before .args .line)) (sym (c .before .before .before .before .before .word-first .ensures) ∙ not-false _ (c .before .before .before .before .if1 .left)) _ (c .before .before .before .word .ensures) (sym (c .before .same-word .ensures) ∙ not-true _ (c .if2 .taken))
-
-past-word-requires : tie.Need-past-word-requires
-past-word-requires c κs = search needs
-
-keyword-requires : tie.Need-keyword-requires
-keyword-requires c κs = search needs
-
-keyword-requires-2 : tie.Need-keyword-requires-2
-keyword-requires-2 c κs = search needs
-
-keyword-requires-3 : tie.Need-keyword-requires-3
-keyword-requires-3 c κs = search needs
-
-keyword-requires-4 : tie.Need-keyword-requires-4
-keyword-requires-4 c κs = search needs
-
-ended-requires : tie.Need-ended-requires
-ended-requires c κs = search needs
+returns-2 c =
+    let at-word = c .before .before .before in
+    let at-skip-blanks = at-word .before in
+    let at-if1 = at-skip-blanks .before in
+    let at-word-first = at-if1 .before in
+    let args = at-word-first .before .before .before .before .before .before .args in
+    header-other _ (now (args .line)) (sym (at-word-first .word-first .ensures) ∙ not-false _ (at-if1 .if1 .left)) _
+    (word-is (now (args .line)) 0 (at-skip-blanks .skip-blanks .ensures .0) (at-word .word .ensures .0))
+    (sym (c .before .same-word .ensures) ∙ not-true _ (c .if2 .taken))
 
 returns-3 : tie.Need-returns-3
-returns-3 c = c .ended .ensures ∙ four-taken (c .before .before .before .before .keyword .ensures) (c .before .before .before .keyword2 .ensures) (c .before .before .keyword3 .ensures) (c .before .keyword4 .ensures) ∙ header-after _ (now (c .before .before .before .before .before .before .before .before .before .before .before .before .before .before .before .before .before .args .line)) (sym (c .before .before .before .before .before .before .before .before .before .before .before .word-first .ensures) ∙ not-false _ (c .before .before .before .before .before .before .before .before .before .before .if1 .left)) _ (c .before .before .before .before .before .before .before .before .before .word .ensures) (sym (c .before .before .before .before .before .before .before .same-word .ensures) ∙ not-false _ (c .before .before .before .before .before .before .if2 .left)) _ (c .before .before .before .before .before .past-word .ensures .0)
+returns-3 c =
+    let keyword3 = c .before .before .keyword3 in
+    let at-keyword2 = c .before .before .before in
+    let at-keyword = at-keyword2 .before in
+    let at-if2 = at-keyword .before in
+    let at-same-word = at-if2 .before in
+    let at-word = at-same-word .before .before in
+    let at-skip-blanks = at-word .before in
+    let at-if1 = at-skip-blanks .before in
+    let at-word-first = at-if1 .before in
+    let args = at-word-first .before .before .before .before .before .before .args in
+    c .ended .ensures ∙ four-taken (at-keyword .keyword .ensures) (at-keyword2 .keyword2 .ensures) (keyword3 .ensures) (c .before .keyword4 .ensures)
+    ∙ header-after _ (now (args .line)) (sym (at-word-first .word-first .ensures) ∙ not-false _ (at-if1 .if1 .left)) _
+    (word-is (now (args .line)) 0 (at-skip-blanks .skip-blanks .ensures .0) (at-word .word .ensures .0))
+    (sym (at-same-word .same-word .ensures) ∙ not-false _ (at-if2 .if2 .left)) _
+    (word-past (now (args .line)) 0 (at-skip-blanks .skip-blanks .ensures .0) (at-word .word .ensures .0))
 
 pub is-header-spec : {M : Type 1} → statement M
 is-header-spec =
     tie.close
     (tie.spec
-    word-first-requires
+    (λ c κs. search needs)
     returns
-    word-requires
-    slice-aggregate-same-word
-    same-word-requires
+    (λ c κs. search needs)
+    (λ c κs. search needs)
+    (λ c. search needs)
+    (λ c κs. search needs)
     returns-2
-    past-word-requires
-    keyword-requires
-    keyword-requires-2
-    keyword-requires-3
-    keyword-requires-4
-    ended-requires
+    (λ c. search needs)
+    (λ c κs. search needs)
+    (λ c κs. search needs)
+    (λ c κs. search needs)
+    (λ c κs. search needs)
+    (λ c κs. search needs)
     returns-3)

@@ -19,20 +19,17 @@ abbrev μ-loop : tie.MeasureT-loop
 loop-holds : tie.Need-loop-holds Inv-loop μ-loop
 loop-holds c = (search needs, refl)
 
-shared-slice-read-if1 : tie.Need-shared-slice-read-if1 Inv-loop μ-loop
-shared-slice-read-if1 c = search needs
-
 returns : tie.Need-returns Inv-loop μ-loop
-returns c = (scan-stop inLine _ _ _ (c .before .before .before .loop .inv) (c .before .before .loop-test .taken) (ap not (eq-eqb _ _ (c .if1 .taken))), search needs)
-
-add-i : tie.Need-add-i Inv-loop μ-loop
-add-i c = search needs
-
-loop-less : tie.Need-loop-less Inv-loop μ-loop
-loop-less c = search needs
+returns c =
+    let loop-test = c .before .before .loop-test in
+    let inv = c .before .before .before .loop .inv in
+    (scan-stop inLine _ _ _ inv (loop-test .taken) (ap not (eq-eqb _ _ (c .if1 .taken))), search needs)
 
 loop-again : tie.Need-loop-again Inv-loop μ-loop
-loop-again c = scan-more inLine _ _ _ (c .before .before .before .loop .inv) (c .before .before .loop-test .taken) (ap not (ne-eqb _ _ (c .if1 .left)))
+loop-again c =
+    let loop-test = c .before .before .loop-test in
+    let inv = c .before .before .before .loop .inv in
+    scan-more inLine _ _ _ inv (loop-test .taken) (ap not (ne-eqb _ _ (c .if1 .left)))
 
 returns-2 : tie.Need-returns-2 Inv-loop μ-loop
 returns-2 c = (scan-end inLine _ _ _ (c .before .loop .inv) (c .loop-test .left), search needs)
@@ -44,9 +41,9 @@ line-end-spec =
     Inv-loop
     μ-loop
     loop-holds
-    shared-slice-read-if1
+    (λ c. search needs)
     returns
-    add-i
-    loop-less
+    (λ c. search needs)
+    (λ c. search needs)
     loop-again
     returns-2)

@@ -23,32 +23,35 @@ returns-2 c = sym (natural-long _ (c .if2 .taken))
 loop-holds : tie.Need-loop-holds Inv-loop μ-loop
 loop-holds c = reading-starts _ (c .before .if1 .left) (c .if2 .left)
 
-shared-slice-read-d : tie.Need-shared-slice-read-d Inv-loop μ-loop
-shared-slice-read-d c = search needs
-
 returns-3 : tie.Need-returns-3 Inv-loop μ-loop
-returns-3 c = sym (reading-low _ _ _ (c .before .before .before .loop .inv) (c .before .before .loop-test .taken) (c .if3 .taken))
+returns-3 c =
+    let loop-test = c .before .before .loop-test in
+    let inv = c .before .before .before .loop .inv in
+    sym (reading-low _ _ _ inv (loop-test .taken) (c .if3 .taken))
 
 returns-4 : tie.Need-returns-4 Inv-loop μ-loop
-returns-4 c = sym (reading-high _ _ _ (c .before .before .before .before .loop .inv) (c .before .before .before .loop-test .taken) (c .if4 .taken))
+returns-4 c =
+    let at-loop-test = c .before .before .before in
+    let inv = at-loop-test .before .loop .inv in
+    sym (reading-high _ _ _ inv (at-loop-test .loop-test .taken) (c .if4 .taken))
 
 mul-n : tie.Need-mul-n Inv-loop μ-loop
-mul-n c = omega (arith, reading-small _ _ _ (c .before .before .before .before .loop .inv) (c .before .before .before .loop-test .taken))
-
-cast-n : tie.Need-cast-n Inv-loop μ-loop
-cast-n c = search needs
+mul-n c =
+    let at-loop-test = c .before .before .before in
+    let inv = at-loop-test .before .loop .inv in
+    omega (arith, reading-small _ _ _ inv (at-loop-test .loop-test .taken))
 
 add-n : tie.Need-add-n Inv-loop μ-loop
-add-n c = omega (arith, reading-small _ _ _ (c .before .before .before .before .loop .inv) (c .before .before .before .loop-test .taken))
-
-add-i : tie.Need-add-i Inv-loop μ-loop
-add-i c = search needs
-
-loop-less : tie.Need-loop-less Inv-loop μ-loop
-loop-less c = search needs
+add-n c =
+    let at-loop-test = c .before .before .before in
+    let inv = at-loop-test .before .loop .inv in
+    omega (arith, reading-small _ _ _ inv (at-loop-test .loop-test .taken))
 
 loop-again : tie.Need-loop-again Inv-loop μ-loop
-loop-again c = reading-more _ _ _ (c .before .before .before .before .loop .inv) (c .before .before .before .loop-test .taken) (c .before .if3 .left) (c .if4 .left)
+loop-again c =
+    let at-loop-test = c .before .before .before in
+    let inv = at-loop-test .before .loop .inv in
+    reading-more _ _ _ inv (at-loop-test .loop-test .taken) (c .before .if3 .left) (c .if4 .left)
 
 returns-5 : tie.Need-returns-5 Inv-loop μ-loop
 returns-5 c = sym (reading-end _ _ _ (c .before .loop .inv) (c .loop-test .left))
@@ -62,13 +65,13 @@ read-natural-spec =
     returns
     returns-2
     loop-holds
-    shared-slice-read-d
+    (λ c. search needs)
     returns-3
     returns-4
     mul-n
-    cast-n
+    (λ c. search needs)
     add-n
-    add-i
-    loop-less
+    (λ c. search needs)
+    (λ c. search needs)
     loop-again
     returns-5)

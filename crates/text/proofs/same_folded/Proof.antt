@@ -17,34 +17,35 @@ abbrev μ-loop : tie.MeasureT-loop
 μ-loop w k i₀ i = length w - i
 
 returns : tie.Need-returns Inv-loop μ-loop
-returns c = sym (folded-differs (now (c .before .before .before .args .w)) (now (c .before .before .before .args .k)) (c .if1 .taken))
+returns c =
+    let args = c .before .before .before .args in
+    sym (folded-differs (now (args .w)) (now (args .k)) (c .if1 .taken))
 
 loop-holds : tie.Need-loop-holds Inv-loop μ-loop
-loop-holds c = folded-starts (now (c .before .before .before .args .w)) (now (c .before .before .before .args .k)) (c .if1 .left)
-
-shared-slice-read-to-lower : tie.Need-shared-slice-read-to-lower Inv-loop μ-loop
-shared-slice-read-to-lower c = search needs
-
-to-lower-requires : tie.Need-to-lower-requires Inv-loop μ-loop
-to-lower-requires c κs = search needs
-
-shared-slice-read-if2 : tie.Need-shared-slice-read-if2 Inv-loop μ-loop
-shared-slice-read-if2 c = search needs
+loop-holds c =
+    let args = c .before .before .before .args in
+    folded-starts (now (args .w)) (now (args .k)) (c .if1 .left)
 
 returns-2 : tie.Need-returns-2 Inv-loop μ-loop
-returns-2 c = sym (folded-stop (now (c .before .before .before .before .before .before .before .before .before .args .w)) (now (c .before .before .before .before .before .before .before .before .before .args .k)) _ (c .before .before .before .before .before .loop .inv) (c .before .before .before .before .loop-test .taken) _ (c .before .before .to-lower .ensures) (c .if2 .taken))
-
-add-i : tie.Need-add-i Inv-loop μ-loop
-add-i c = search needs
-
-loop-less : tie.Need-loop-less Inv-loop μ-loop
-loop-less c = search needs
+returns-2 c =
+    let to-lower = c .before .before .to-lower in
+    let at-loop-test = c .before .before .before .before in
+    let at-loop = at-loop-test .before in
+    let args = at-loop .before .before .before .before .args in
+    sym (folded-stop (now (args .w)) (now (args .k)) _ (at-loop .loop .inv) (at-loop-test .loop-test .taken) _ (to-lower .ensures) (c .if2 .taken))
 
 loop-again : tie.Need-loop-again Inv-loop μ-loop
-loop-again c = folded-more (now (c .before .before .before .before .before .before .before .before .before .args .w)) (now (c .before .before .before .before .before .before .before .before .before .args .k)) _ (c .before .before .before .before .before .loop .inv) (c .before .before .before .before .loop-test .taken) _ (c .before .before .to-lower .ensures) (c .if2 .left)
+loop-again c =
+    let to-lower = c .before .before .to-lower in
+    let at-loop-test = c .before .before .before .before in
+    let at-loop = at-loop-test .before in
+    let args = at-loop .before .before .before .before .args in
+    folded-more (now (args .w)) (now (args .k)) _ (at-loop .loop .inv) (at-loop-test .loop-test .taken) _ (to-lower .ensures) (c .if2 .left)
 
 returns-3 : tie.Need-returns-3 Inv-loop μ-loop
-returns-3 c = sym (folded-end (now (c .before .before .before .before .before .args .w)) (now (c .before .before .before .before .before .args .k)) _ (c .before .loop .inv) (c .loop-test .left))
+returns-3 c =
+    let args = c .before .before .before .before .before .args in
+    sym (folded-end (now (args .w)) (now (args .k)) _ (c .before .loop .inv) (c .loop-test .left))
 
 pub same-folded-spec : {M : Type 1} → statement M
 same-folded-spec =
@@ -54,11 +55,11 @@ same-folded-spec =
     μ-loop
     returns
     loop-holds
-    shared-slice-read-to-lower
-    to-lower-requires
-    shared-slice-read-if2
+    (λ c. search needs)
+    (λ c κs. search needs)
+    (λ c. search needs)
     returns-2
-    add-i
-    loop-less
+    (λ c. search needs)
+    (λ c. search needs)
     loop-again
     returns-3)

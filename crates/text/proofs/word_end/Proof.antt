@@ -18,23 +18,17 @@ abbrev μ-loop : tie.MeasureT-loop
 loop-holds : tie.Need-loop-holds Inv-loop μ-loop
 loop-holds c = (search needs, refl)
 
-shared-slice-read-is-blank : tie.Need-shared-slice-read-is-blank Inv-loop μ-loop
-shared-slice-read-is-blank c = search needs
-
-is-blank-requires : tie.Need-is-blank-requires Inv-loop μ-loop
-is-blank-requires c κs = search needs
-
 returns : tie.Need-returns Inv-loop μ-loop
-returns c = (scan-stop inWord _ _ _ (c .before .before .before .before .loop .inv) (c .before .before .before .loop-test .taken) (ap not (sym (c .before .is-blank .ensures) ∙ c .if1 .taken)), search needs)
-
-add-i : tie.Need-add-i Inv-loop μ-loop
-add-i c = search needs
-
-loop-less : tie.Need-loop-less Inv-loop μ-loop
-loop-less c = search needs
+returns c =
+    let at-loop-test = c .before .before .before in
+    let inv = at-loop-test .before .loop .inv in
+    (scan-stop inWord _ _ _ inv (at-loop-test .loop-test .taken) (ap not (sym (c .before .is-blank .ensures) ∙ c .if1 .taken)), search needs)
 
 loop-again : tie.Need-loop-again Inv-loop μ-loop
-loop-again c = scan-more inWord _ _ _ (c .before .before .before .before .loop .inv) (c .before .before .before .loop-test .taken) (ap not (sym (c .before .is-blank .ensures) ∙ c .if1 .left))
+loop-again c =
+    let at-loop-test = c .before .before .before in
+    let inv = at-loop-test .before .loop .inv in
+    scan-more inWord _ _ _ inv (at-loop-test .loop-test .taken) (ap not (sym (c .before .is-blank .ensures) ∙ c .if1 .left))
 
 returns-2 : tie.Need-returns-2 Inv-loop μ-loop
 returns-2 c = (scan-end inWord _ _ _ (c .before .loop .inv) (c .loop-test .left), search needs)
@@ -46,10 +40,10 @@ word-end-spec =
     Inv-loop
     μ-loop
     loop-holds
-    shared-slice-read-is-blank
-    is-blank-requires
+    (λ c. search needs)
+    (λ c κs. search needs)
     returns
-    add-i
-    loop-less
+    (λ c. search needs)
+    (λ c. search needs)
     loop-again
     returns-2)

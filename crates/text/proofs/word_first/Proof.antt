@@ -9,15 +9,12 @@ use Rattle.text.proofs.word_first.Tie as tie
 returns : tie.Need-returns
 returns c = sym (begins-empty (now (c .before .before .args .line)) (c .if1 .taken))
 
-shared-slice-read-is-blank : tie.Need-shared-slice-read-is-blank
-shared-slice-read-is-blank c = search needs
-
-is-blank-requires : tie.Need-is-blank-requires
-is-blank-requires c κs = search needs
-
 returns-2 : tie.Need-returns-2
-returns-2 c = begins-at (now (c .before .before .before .before .args .line)) (c .before .before .if1 .left) _ (c .is-blank .ensures)
+returns-2 c =
+    let if1 = c .before .before .if1 in
+    let args = c .before .before .before .before .args in
+    begins-at (now (args .line)) (if1 .left) _ (c .is-blank .ensures)
 
 pub word-first-spec : {M : Type 1} → statement M
 word-first-spec =
-    tie.close (tie.spec returns shared-slice-read-is-blank is-blank-requires returns-2)
+    tie.close (tie.spec returns (λ c. search needs) (λ c κs. search needs) returns-2)

@@ -5,12 +5,6 @@ use Rattle.writer.proofs.Lines.{edge-chosen, edge-unchosen}
 use Rattle.writer.proofs.put_edge.Statement.{statement}
 use Rattle.writer.proofs.put_edge.Tie as tie
 
-put-pair-requires : tie.Need-put-pair-requires
-put-pair-requires c κs = search needs
-
-same-length : tie.Need-same-length
-same-length c = search needs
-
 returns : tie.Need-returns
 returns c =
     let a = c .before .before .before .before .before .before .args in
@@ -22,4 +16,4 @@ returns-2 c =
     edge-unchosen (now (a .out)) (a .at) (a .row) (a .column) (a .mark) (c .if1 .left)
 
 pub put-edge-spec : {M : Type 1} → statement M
-put-edge-spec = tie.close (tie.spec put-pair-requires same-length returns returns-2)
+put-edge-spec = tie.close (tie.spec (λ c κs. search needs) (λ c. search needs) returns returns-2)

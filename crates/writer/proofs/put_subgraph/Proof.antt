@@ -10,13 +10,14 @@ use Rattle.writer.proofs.put_subgraph.Statement.{statement}
 use Rattle.writer.proofs.put_subgraph.Tie as tie
 
 abbrev Inv-loop : tie.InvT-loop
-Inv-loop out₀ rows columns row column chosen at₀ e₀ out at e = Writing row column chosen out₀ at₀ out at e
+Inv-loop out₀ row column chosen at₀ e₀ out at e = Writing row column chosen out₀ at₀ out at e
 
 abbrev μ-loop : tie.MeasureT-loop
-μ-loop out₀ rows columns row column chosen at₀ e₀ out at e = length row - e
+μ-loop out₀ row column chosen at₀ e₀ out at e = length row - e
 
 count-chosen-requires : tie.Need-count-chosen-requires Inv-loop μ-loop
-count-chosen-requires c κs = marks-few (c .before .before .before .before .before .pre .1)
+count-chosen-requires c κs = let q = c .before .before .before .before .before .pre .1 in
+    marks-few (q .0) (q .1)
 
 put-head-requires : tie.Need-put-head-requires Inv-loop μ-loop
 put-head-requires c κs = omega (arith, c .before .before .before .before .before .before .pre .0)
@@ -26,50 +27,47 @@ loop-holds c =
     let s = c .before .before .before .before .before .before .before .before .before in
     let h = c .before .before .put-head in
     writing-starts _ _ _ _ _
-    (head-room (s .pre .1) (now (s .args .out)) (s .pre .0) (c .before .before .before .count-chosen .ensures) (h .ensures) (h .kept .0))
-
-mul-put-edge : tie.Need-mul-put-edge Inv-loop μ-loop
-mul-put-edge c = search needs
-
-shared-slice-read-put-edge : tie.Need-shared-slice-read-put-edge Inv-loop μ-loop
-shared-slice-read-put-edge c = search needs
+    (head-room (s .pre .1 .0) (s .pre .1 .1) (now (s .args .out)) (s .pre .0) (c .before .before .before .count-chosen .ensures) (h .ensures) (h .kept .0))
 
 mul-put-edge-2 : tie.Need-mul-put-edge-2 Inv-loop μ-loop
 mul-put-edge-2 c =
-    let w = c .before .before .before .before .before .before .before .before .before .before .before .before .before .pre .1 in
-    omega (arith, w .column-long, few w)
+    let q = c .before .before .before .before .before .before .before .before .before .before .before .before .before .pre .1 in
+    omega (arith, q .0 .rowLong, q .0 .columnLong, few (q .0) (q .1))
 
 shared-slice-read-put-edge-2 : tie.Need-shared-slice-read-put-edge-2 Inv-loop μ-loop
-shared-slice-read-put-edge-2 c = omega (arith, c .before .before .before .before .before .before .before .before .before .before .before .before .before .before .pre .1 .column-long)
+shared-slice-read-put-edge-2 c =
+    let q = c .before .before .before .before .before .before .before .before .before .before .before .before .before .before .pre .1 in
+    omega (arith, q .0 .rowLong, q .0 .columnLong)
 
 shared-slice-read-put-edge-3 : tie.Need-shared-slice-read-put-edge-3 Inv-loop μ-loop
-shared-slice-read-put-edge-3 c = omega (arith, c .before .before .before .before .before .before .before .before .before .before .before .before .before .before .before .pre .1 .marks-long)
+shared-slice-read-put-edge-3 c =
+    let q = c .before .before .before .before .before .before .before .before .before .before .before .before .before .before .before .pre .1 in
+    omega (arith, q .0 .rowLong, q .1 .long)
 
 put-edge-requires : tie.Need-put-edge-requires Inv-loop μ-loop
 put-edge-requires c κs =
     let s = c .before .before .before .before .before .before .before .before .before .before .before .before .before .before .before in
-    line-room (s .pre .1) (c .before .before .before .before .before .loop .inv) (c .before .before .before .before .loop-test .taken)
-
-add-e : tie.Need-add-e Inv-loop μ-loop
-add-e c = search needs
-
-loop-less : tie.Need-loop-less Inv-loop μ-loop
-loop-less c = omega arith
+    line-room (s .pre .1 .0) (s .pre .1 .1) (c .before .before .before .before .before .loop .inv) (c .before .before .before .before .loop-test .taken)
 
 loop-again : tie.Need-loop-again Inv-loop μ-loop
 loop-again c =
-    let s = c .before .before .before .before .before .before .before .before .before .before .before .before .before .before .before .before .before .before in
+    let at-loop-test = c .before .before .before .before .before .before .before in
+    let at-loop = at-loop-test .before in
+    let s = at-loop .before .before .before .before .before .before .before .before .before .before in
     let p = c .before .before .put-edge in
-    writing-more (s .pre .1) (c .before .before .before .before .before .before .before .before .loop .inv) (c .before .before .before .before .before .before .before .loop-test .taken) (p .kept .0) (p .ensures)
+    writing-more (s .pre .1 .0) (s .pre .1 .1) (at-loop .loop .inv) (at-loop-test .loop-test .taken) (p .kept .0) (p .ensures)
 
 same-length : tie.Need-same-length Inv-loop μ-loop
 same-length c = c .before .loop .inv .long ∙ c .before .before .before .before .put-head .kept .0
 
 returns : tie.Need-returns Inv-loop μ-loop
 returns c =
-    let s = c .before .before .before .before .before .before .before .before .before .before .before in
-    subgraph-written (s .pre .1) (now (s .args .out)) (s .pre .0) (c .before .before .before .before .before .count-chosen .ensures) (c .before .before .before .before .put-head .ensures)
-    (writing-ends (s .pre .1) (c .before .loop .inv) (c .loop-test .left))
+    let at-put-head = c .before .before .before .before in
+    let at-count-chosen = at-put-head .before in
+    let s = at-count-chosen .before .before .before .before .before .before in
+    λ w. subgraph-written (s .pre .1 .0) (s .pre .1 .1) (now (s .args .out)) (s .pre .0) (at-count-chosen .count-chosen .ensures)
+    (at-put-head .put-head .ensures) w
+    (writing-ends (s .pre .1 .0) (s .pre .1 .1) (c .before .loop .inv) (c .loop-test .left) w)
 
 pub put-subgraph-spec : {M : Type 1} → statement M
 put-subgraph-spec =
@@ -80,14 +78,14 @@ put-subgraph-spec =
     count-chosen-requires
     put-head-requires
     loop-holds
-    mul-put-edge
-    shared-slice-read-put-edge
+    (λ c. search needs)
+    (λ c. search needs)
     mul-put-edge-2
     shared-slice-read-put-edge-2
     shared-slice-read-put-edge-3
     put-edge-requires
-    add-e
-    loop-less
+    (λ c. search needs)
+    (λ c. omega arith)
     loop-again
     same-length
     returns)

@@ -8,34 +8,46 @@ use borrow.Author.Needs.{needs}
 use Rattle.text.proofs.Cursor.last_natural.Statement.{statement}
 use Rattle.text.proofs.Cursor.last_natural.Tie as tie
 
-next-natural-requires : tie.Need-next-natural-requires
-next-natural-requires c κs = search needs
-
-enum-known-value : tie.Need-enum-known-value
-enum-known-value c = search needs
-
-enum-told : tie.Need-enum-told
-enum-told c = search needs
-
 returns : tie.Need-returns
-returns c = sym (one-bad natural _ (spoilt natural (now (c .before .before .before .before .args .line)) (c .before .before .before .before .args .self) (sym (ap nextNaturalSays (c .enum-told .given .1)) ∙ c .before .before .next-natural .ensures)))
+returns c =
+    let next-natural = c .before .before .next-natural in
+    let args = c .before .before .before .before .args in
+    sym (one-bad natural _ (spoilt natural (now (args .line)) (args .self) (sym (ap nextNaturalSays (c .enum-told .given .1)) ∙ next-natural .ensures)))
 
 no-words-requires : tie.Need-no-words-requires
-no-words-requires c κs = (took natural (now (c .before .before .before .before .before .args .line)) (c .before .before .before .before .before .args .self) natural-nil (c .before .before .before .before .before .pre) _ _ (sym (ap nextNaturalSays (c .before .value .given .1)) ∙ c .before .before .before .next-natural .ensures)) .inside
+no-words-requires c κs =
+    let at-next-natural = c .before .before .before in
+    let start = at-next-natural .before .before in
+    (took natural (now (start .args .line)) (start .args .self) natural-nil (start .pre) _ _
+    (sym (ap nextNaturalSays (c .before .value .given .1)) ∙ at-next-natural .next-natural .ensures)) .inside
 
 returns-2 : tie.Need-returns-2
-returns-2 c = one-last natural (now (c .before .before .before .before .before .before .before .args .line)) _ _ _ (took natural (now (c .before .before .before .before .before .before .before .args .line)) (c .before .before .before .before .before .before .before .args .self) natural-nil (c .before .before .before .before .before .before .before .pre) _ _ (sym (ap nextNaturalSays (c .before .before .before .value .given .1)) ∙ c .before .before .before .before .before .next-natural .ensures)) _ (sym (c .before .no-words .ensures) ∙ c .if1 .taken)
+returns-2 c =
+    let at-value = c .before .before .before in
+    let at-next-natural = at-value .before .before in
+    let start = at-next-natural .before .before in
+    one-last natural (now (start .args .line)) _ _ _
+    (took natural (now (start .args .line)) (start .args .self) natural-nil (start .pre) _ _
+    (sym (ap nextNaturalSays (at-value .value .given .1)) ∙ at-next-natural .next-natural .ensures)) _
+    (sym (c .before .no-words .ensures) ∙ c .if1 .taken)
 
 returns-3 : tie.Need-returns-3
-returns-3 c = one-last natural (now (c .before .before .before .before .before .before .before .args .line)) _ _ _ (took natural (now (c .before .before .before .before .before .before .before .args .line)) (c .before .before .before .before .before .before .before .args .self) natural-nil (c .before .before .before .before .before .before .before .pre) _ _ (sym (ap nextNaturalSays (c .before .before .before .value .given .1)) ∙ c .before .before .before .before .before .next-natural .ensures)) _ (sym (c .before .no-words .ensures) ∙ c .if1 .left)
+returns-3 c =
+    let at-value = c .before .before .before in
+    let at-next-natural = at-value .before .before in
+    let start = at-next-natural .before .before in
+    one-last natural (now (start .args .line)) _ _ _
+    (took natural (now (start .args .line)) (start .args .self) natural-nil (start .pre) _ _
+    (sym (ap nextNaturalSays (at-value .value .given .1)) ∙ at-next-natural .next-natural .ensures)) _
+    (sym (c .before .no-words .ensures) ∙ c .if1 .left)
 
 pub last-natural-spec : {M : Type 1} → statement M
 last-natural-spec =
     tie.close
     (tie.spec
-    next-natural-requires
-    enum-known-value
-    enum-told
+    (λ c κs. search needs)
+    (λ c. search needs)
+    (λ c. search needs)
     returns
     no-words-requires
     returns-2

@@ -6,40 +6,44 @@ use mir.Syntax.{w32}
 use Rattle.text.proofs.Integers.{integer-fits}
 use Rattle.layout.specs.Text.{integer}
 use Rattle.text.specs.Cursor.{integerSays}
+use Rattle.text.proofs.Pieces.{word-is, word-past}
 use Rattle.text.proofs.Shapes.{next-is, next-bad}
 use borrow.Author.Needs.{needs}
 use Rattle.text.proofs.Cursor.next_integer.Statement.{statement}
 use Rattle.text.proofs.Cursor.next_integer.Tie as tie
 
-word-requires : tie.Need-word-requires
-word-requires c κs = search needs
-
-read-integer-requires : tie.Need-read-integer-requires
-read-integer-requires c κs = search needs
-
-enum-known-value : tie.Need-enum-known-value
-enum-known-value c = search needs
-
-enum-told : tie.Need-enum-told
-enum-told c = search needs
-
 returns : tie.Need-returns
-returns c = next-bad integer (now (c .before .before .before .before .before .args .line)) (c .before .before .before .before .before .args .self) _ (c .before .before .before .word .ensures) (sym (c .before .before .read-integer .ensures) ∙ ap integerSays (c .enum-told .given .1))
-
-past-word-requires : tie.Need-past-word-requires
-past-word-requires c κs = search needs
+returns c =
+    let read-integer = c .before .before .read-integer in
+    let at-word = c .before .before .before in
+    let at-skip-blanks = at-word .before in
+    let args = at-skip-blanks .before .before .args in
+    next-bad integer (now (args .line)) (args .self) _
+    (word-is (now (args .line)) (args .self .at) (at-skip-blanks .skip-blanks .ensures .0) (at-word .word .ensures .0))
+    (sym (read-integer .ensures) ∙ ap integerSays (c .enum-told .given .1))
 
 returns-2 : tie.Need-returns-2
-returns-2 c = rw (toZ-ofZ {w = w32} (integer-fits _ _ (sym (c .before .before .before .before .read-integer .ensures) ∙ ap integerSays (c .before .before .value .given .1)))) (next-is integer (now (c .before .before .before .before .before .before .before .args .line)) (c .before .before .before .before .before .before .before .args .self) _ (c .before .before .before .before .before .word .ensures) _ (sym (c .before .before .before .before .read-integer .ensures) ∙ ap integerSays (c .before .before .value .given .1)) _ (c .past-word .ensures .0))
+returns-2 c =
+    let value = c .before .value in
+    let at-read-integer = c .before .before .before in
+    let at-word = at-read-integer .before in
+    let at-skip-blanks = at-word .before in
+    let args = at-skip-blanks .before .before .args in
+    rw (toZ-ofZ {w = w32} (integer-fits _ _ (sym (at-read-integer .read-integer .ensures) ∙ ap integerSays (value .given .1))))
+    (next-is integer (now (args .line)) (args .self) _
+    (word-is (now (args .line)) (args .self .at) (at-skip-blanks .skip-blanks .ensures .0) (at-word .word .ensures .0)) _
+    (sym (at-read-integer .read-integer .ensures) ∙ ap integerSays (value .given .1)) _
+    (word-past (now (args .line)) (args .self .at) (at-skip-blanks .skip-blanks .ensures .0) (at-word .word .ensures .0)))
 
 pub next-integer-spec : {M : Type 1} → statement M
 next-integer-spec =
     tie.close
     (tie.spec
-    word-requires
-    read-integer-requires
-    enum-known-value
-    enum-told
+    (λ c κs. search needs)
+    (λ c κs. search needs)
+    (λ c κs. search needs)
+    (λ c. search needs)
+    (λ c. search needs)
     returns
-    past-word-requires
+    (λ c. search needs)
     returns-2)

@@ -1,0 +1,172 @@
+-- Where the method ends, its subgraph is optimal, and the prices that it hands out are in range, cover every edge and leave no gap.
+use Prim.Native.Nat.{ℕ, _+_, _*_, _-_, _≤_, _<_}
+use mathlib.Core.Path.{_≡_, ap, ap₂, _∙_}
+use mathlib.Core.Logic.{⊎-elim}
+use mathlib.Core.List.{List}
+use native.Mathlib.Omega.{arith}
+use native.Mathlib.Nat.{eq-zero-or-pos}
+use native.Mathlib.Decide.{decLt}
+use lib.IntN.{ℤ, pos, negsuc, _+ℤ_, _-ℤ_, _*ℤ_, *ℤ-zero}
+use lib.Signed.{_≤ℤ_}
+use Rattle.integers.specs.Integer.{up, dn}
+use Rattle.integers.proofs.Order.{order, up-add, up-diff, zero-times, nonneg}
+use Rattle.graph.specs.Graph.{Graph, vertices, firstEnd, secondEnd, weightAt, boundAt}
+use Rattle.graph.specs.Subgraph.{Feasible, markAt, degree}
+use Rattle.graph.specs.Passed.{Bounded}
+use Rattle.dual.specs.Prices.{Prices, vertexPrice, edgePrice}
+use Rattle.dual.specs.Gap.{coverOf, gapOf}
+use Rattle.dual.specs.Solve.{withoutSets, SolverPrice, Solved}
+use Rattle.duality.proofs.Conditions.{Incident, DualFeasible}
+use Rattle.duality.proofs.Passed.{passed-incident}
+use Rattle.duality.proofs.Duality.{complementary, no-gap}
+use Rattle.tree.specs.Method.{level, value, cost, limit, Solvable, Good, Done}
+use Rattle.tree.proofs.Solvable.{value-least, value-most}
+use Rattle.optimiser.specs.Optimiser.{HandedOut}
+use Rattle.optimiser.proofs.Paying.{times-one, times-none}
+
+-- A weight is its value less two levels.
+weight-value : (z : ℤ) → 0 < up (z +ℤ pos (2 * level)) → up z + 2 * level ≡ up (z +ℤ pos (2 * level)) + dn z
+weight-value z h = go (z +ℤ pos (2 * level)) (up-add z (pos (2 * level))) h
+  where
+    go : (y : ℤ) → up y + (dn z + 0) ≡ (up z + 2 * level) + dn y → 0 < up y → up z + 2 * level ≡ up y + dn z
+    go (pos n) e l = omega arith
+    go (negsuc n) e l = absurd (omega arith)
+
+-- What is above b makes a up.
+taken : (k a b : ℕ) → k ≡ 1 → b ≤ a → k * (a - b) + b ≡ a
+taken k a b e l = omega (arith, times-one k (a - b) e)
+
+module _ {g : Graph} {bound : List ℤ} {x : List ℕ} {price : ℕ → ℕ} {vertex edge : List ℤ} (net : Solvable g)
+    (bounded : Bounded (vertices g) bound) (good : Good g bound x price) (done : Done (g .rows) g bound x price)
+    (out : HandedOut g x price vertex edge) where
+  abbrev P : Prices
+  P = withoutSets vertex edge
+
+  ends : Incident g
+  ends = passed-incident (net .passed)
+
+  no-debt : (v : ℕ) → v < vertices g → dn (boundAt bound v) ≡ 0
+  no-debt v l = ap dn (nonneg (bounded .range v l .0))
+
+  feasible : Feasible g bound x
+  feasible = record {
+    long = good .long;
+    marks = λ e l. good .marks e;
+    within = λ v l. omega (order, good .within v l, no-debt v l);
+  }
+
+  vertex-price : (v : ℕ) → v < vertices g → SolverPrice (vertexPrice P v)
+  vertex-price v l = rw (out .ofVertex v l) (record { least = omega order; greatest = omega (order, good .most v l) })
+
+  -- An edge's price is at most the level, and with its ends' prices it makes up the weight, or more where it is not chosen.
+  module _ (e : ℕ) (l : e < g .edges) where
+    price-small : markAt x e * (value g e - cost g price e) ≤ level
+    price-small = ⊎-elim
+        (λ z. omega (arith, times-none (markAt x e) (value g e - cost g price e) z))
+        (λ s.
+        let k : markAt x e ≡ 1 = omega (arith, good .marks e) in
+        omega (
+          arith,
+          taken (markAt x e) (value g e) (cost g price e) k (good .chosen e l k),
+          value-most net e l,
+          good .least (firstEnd g e) (ends .first e l),
+          good .least (secondEnd g e) (ends .second e l),
+        ))
+        (eq-zero-or-pos (markAt x e))
+
+    edge-price : SolverPrice (edgePrice P e)
+    edge-price = rw (out .ofEdge e l) (record { least = omega order; greatest = omega (order, price-small) })
+
+    abbrev paid : ℕ
+    paid = (price (firstEnd g e) - level) + (price (secondEnd g e) - level) + markAt x e * (value g e - cost g price e) + 0
+
+    cover-is : coverOf g P e ≡ pos paid
+    cover-is =
+        ap₂ (λ y z. y +ℤ z +ℤ pos 0)
+        (ap₂ _+ℤ_ (out .ofVertex (firstEnd g e) (ends .first e l)) (out .ofVertex (secondEnd g e) (ends .second e l)))
+        (out .ofEdge e l)
+
+    -- A chosen edge's prices make up its weight, and those of any other edge at least that.
+    just : markAt x e ≡ 1 → up (weightAt g e) ≡ paid + dn (weightAt g e)
+    just k =
+        omega (
+          arith,
+          taken (markAt x e) (value g e) (cost g price e) k (good .chosen e l k),
+          weight-value (weightAt g e) (omega (arith, value-least net e l)),
+          good .least (firstEnd g e) (ends .first e l),
+          good .least (secondEnd g e) (ends .second e l),
+        )
+
+    enough : up (weightAt g e) ≤ paid + dn (weightAt g e)
+    enough = ⊎-elim
+        (λ z.
+        omega (
+          arith,
+          times-none (markAt x e) (value g e - cost g price e) z,
+          good .loose e l z,
+          weight-value (weightAt g e) (omega (arith, value-least net e l)),
+          good .least (firstEnd g e) (ends .first e l),
+          good .least (secondEnd g e) (ends .second e l),
+        ))
+        (λ s. omega (arith, just (omega (arith, good .marks e))))
+        (eq-zero-or-pos (markAt x e))
+
+    covering : weightAt g e ≤ℤ coverOf g P e
+    covering = rw cover-is (omega (order, enough))
+
+    -- No slack of the edge, nor of its cover.
+    edge-slack : pos (1 - markAt x e) *ℤ edgePrice P e ≡ pos 0
+    edge-slack = ⊎-elim
+        (λ z. ap (λ y. pos (1 - markAt x e) *ℤ y) (out .ofEdge e l ∙ ap pos (times-none (markAt x e) (value g e - cost g price e) z))
+        ∙ *ℤ-zero (pos (1 - markAt x e)))
+        (λ s.
+        let k : 1 - markAt x e ≡ 0 = omega arith in
+        ap (λ n. pos n *ℤ edgePrice P e) k ∙ zero-times (edgePrice P e))
+        (eq-zero-or-pos (markAt x e))
+
+    cover-slack : pos (markAt x e) *ℤ (coverOf g P e -ℤ weightAt g e) ≡ pos 0
+    cover-slack = ⊎-elim
+        (λ z. ap (λ n. pos n *ℤ (coverOf g P e -ℤ weightAt g e)) z ∙ zero-times (coverOf g P e -ℤ weightAt g e))
+        (λ s. ap (λ y. pos (markAt x e) *ℤ y) (nothing (omega (arith, good .marks e))) ∙ *ℤ-zero (pos (markAt x e)))
+        (eq-zero-or-pos (markAt x e))
+      where
+        nothing : markAt x e ≡ 1 → coverOf g P e -ℤ weightAt g e ≡ pos 0
+        nothing k =
+            ap (λ y. y -ℤ weightAt g e) cover-is ∙ omega (order, just k, up-diff (pos paid) (weightAt g e))
+
+  -- A vertex with a price above 0 is saturated.
+  saturated : (v : ℕ) → v < vertices g → level < price v → degree g x v ≡ limit bound v
+  saturated v l s = elim (decLt v (g .rows)) [ yes d ↦ done .done v d s | no d ↦ good .full v (omega (arith, d)) l s ]
+
+  vertex-slack : (v : ℕ) → v < vertices g → vertexPrice P v *ℤ (boundAt bound v -ℤ pos (degree g x v)) ≡ pos 0
+  vertex-slack v l = elim (decLt level (price v)) [
+    | yes s ↦
+        let e : boundAt bound v -ℤ pos (degree g x v) ≡ pos 0 =
+        omega (order, no-debt v l, saturated v l s, up-diff (boundAt bound v) (pos (degree g x v))) in
+        ap (λ y. vertexPrice P v *ℤ y) e ∙ *ℤ-zero (vertexPrice P v)
+    | no s ↦
+        let e : price v - level ≡ 0 = omega (arith, s) in
+        ap (λ y. y *ℤ (boundAt bound v -ℤ pos (degree g x v))) (out .ofVertex v l ∙ ap pos e)
+        ∙ zero-times (boundAt bound v -ℤ pos (degree g x v))
+  ]
+
+  none : gapOf g bound x P ≡ pos 0
+  none = complementary ends bound x P (λ e l. good .marks e) vertex-slack (λ s l. absurd (omega arith)) edge-slack cover-slack
+
+  dual : DualFeasible g bound P
+  dual = record {
+    vertexPrices = λ v l. vertex-price v l .least;
+    edgePrices = λ e l. edge-price e l .least;
+    setPrices = λ s l. absurd (omega arith);
+    rules = λ s l. absurd (omega arith);
+    covering = covering;
+  }
+
+  pub solved : Solved g bound x vertex edge
+  solved = record {
+    optimal = no-gap ends dual feasible none;
+    vertexRange = vertex-price;
+    edgeRange = edge-price;
+    covering = covering;
+    noGap = none;
+  }

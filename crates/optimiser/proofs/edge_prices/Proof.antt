@@ -1,0 +1,74 @@
+-- `optimiser::edge_prices` meets its contract: the edges before e have their prices.
+use Prim.Native.Nat.{_-_}
+use mathlib.Core.Path.{_≡_, ap}
+use native.Mathlib.Omega.{arith}
+use lib.IntN.{pos}
+use lib.ListN.{length}
+use Rattle.graph.specs.Graph.{graphOf}
+use Rattle.lent.proofs.Setting.{Filling, fill-none, fill-more}
+use Rattle.tree.specs.Tree.{levels}
+use Rattle.optimiser.specs.Optimiser.{edgePriceOf}
+use Rattle.optimiser.proofs.edge_prices.Statement.{statement}
+use Rattle.optimiser.proofs.edge_prices.Tie as tie
+
+abbrev Inv-loop : tie.InvT-loop
+Inv-loop s row column weight chosen price edge₀ e₀ edge e =
+    Filling (pos 0) (λ k z. z ≡ pos (edgePriceOf (graphOf s row column weight) chosen (levels price) k)) edge₀ edge e
+
+abbrev μ-loop : tie.MeasureT-loop
+μ-loop s row column weight chosen price edge₀ e₀ edge e = length edge₀ - e
+
+loop-holds : tie.Need-loop-holds Inv-loop μ-loop
+loop-holds c = fill-none
+
+edge-price-of-requires : tie.Need-edge-price-of-requires Inv-loop μ-loop
+edge-price-of-requires c κs =
+    let pre = c .before .before .before .before .before .pre in (pre .0, omega (arith, pre .1, c .before .loop .inv .long, c .loop-test .taken))
+
+set-level-requires : tie.Need-set-level-requires Inv-loop μ-loop
+set-level-requires c κs =
+    let loop-test = c .before .before .loop-test in
+    (loop-test .taken, omega (arith, c .before .edge-price-of .ensures .1))
+
+add-e : tie.Need-add-e Inv-loop μ-loop
+add-e c =
+    let at-loop-test = c .before .before .before .before in
+    let inv = at-loop-test .before .loop .inv in
+    omega (arith, inv .long, at-loop-test .loop-test .taken)
+
+loop-less : tie.Need-loop-less Inv-loop μ-loop
+loop-less c =
+    let at-loop-test = c .before .before .before .before in
+    let inv = at-loop-test .before .loop .inv in
+    omega (arith, inv .long, at-loop-test .loop-test .taken)
+
+loop-again : tie.Need-loop-again Inv-loop μ-loop
+loop-again c =
+    let at-loop-test = c .before .before .before .before in
+    let inv = at-loop-test .before .loop .inv in
+    let price = c .before .before .before .edge-price-of .ensures in
+    rw (c .before .set-level .ensures) (fill-more _ inv (at-loop-test .loop-test .taken) (ap pos (price .0)))
+
+same-length : tie.Need-same-length Inv-loop μ-loop
+same-length c = c .before .loop .inv .long
+
+returns : tie.Need-returns Inv-loop μ-loop
+returns c =
+    let pre = c .before .before .before .before .before .pre in
+    let inv = c .before .loop .inv in
+    λ k l. inv .each k (omega (arith, pre .1, inv .long, c .loop-test .left))
+
+pub edge-prices-spec : {M : Type 1} → statement M
+edge-prices-spec =
+    tie.close
+    (tie.spec
+    Inv-loop
+    μ-loop
+    loop-holds
+    edge-price-of-requires
+    set-level-requires
+    add-e
+    loop-less
+    loop-again
+    same-length
+    returns)

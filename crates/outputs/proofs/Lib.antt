@@ -1,2 +1,0 @@
-pub mod Clearing
-pub mod Filling

@@ -1,0 +1,78 @@
+// What `solve` writes: reads a problem, solves it, and writes an optimal subgraph (plan), or the refusal that ends the run.
+use dual::SolveAnswer;
+use graph::MOST_EDGES;
+use graph::MOST_VERTICES;
+use graph::Shape;
+use graph::WORKSPACE_NUMBERS;
+use problem_reader::ProblemAnswer;
+use report::Source;
+ghost use mathlib.Core.Path.{_≡_};
+ghost use Prim.Native.Nat.{_≤_};
+ghost use lib.ListN.{length};
+ghost use Rattle.graph.specs.Limits.{subgraphBytes};
+ghost use Rattle.graph.specs.Graph.{graphOf};
+ghost use Rattle.graph.specs.Passed.{SizesHold};
+ghost use Rattle.report.specs.Programs.{SolveComposed};
+ghost use Rattle.solve_writer.specs.Solution.{Solution};
+
+// Solves a problem, and writes the text of an optimal subgraph or the solver's refusal at the start of `out`. The result is its length.
+fn solve_problem(
+    s: Shape,
+    row: &[u32],
+    column: &[u32],
+    weight: &[i32],
+    bound: &[i32],
+    out: &mut [u8],
+) -> usize
+    requires { ⌜ SizesHold (s .kind) (s .rows) (s .columns) (s .edges) ⌝ }
+    requires { ⌜ length (now out) ≡ subgraphBytes ⌝ }
+    ensures { λ r. ⌜ Solution (graphOf s (now (row .entry)) (now (column .entry)) (now (weight .entry))) (now (bound .entry)) (now (out .exit)) r ⌝ }
+{
+    let n = checks::vertex_count(s) as usize;
+    let m = s.edges as usize;
+    let mut chosen = [0u8; MOST_EDGES];
+    let mut vertex_price = [0i32; MOST_VERTICES];
+    let mut edge_price = [0i32; MOST_EDGES];
+    let mut workspace = [0i32; WORKSPACE_NUMBERS];
+    match solver::solve(
+        s,
+        row,
+        column,
+        weight,
+        bound,
+        &mut chosen[..m],
+        &mut vertex_price[..n],
+        &mut edge_price[..m],
+        &mut workspace,
+    ) {
+        SolveAnswer::Refused(refusal) => report::put_refused(out, Source::Input, refusal),
+        SolveAnswer::Solved => writer::put_subgraph(out, s, row, column, &chosen[..m]),
+    }
+}
+
+// Writes what `solve` writes of the two texts at the start of `out`. The result is its length.
+pub fn solve(sheet: &[u8], limits: &[u8], out: &mut [u8]) -> usize
+    requires { ⌜ length (now out) ≡ subgraphBytes ⌝ }
+    ensures inside { λ r. ⌜ r ≤ length (now (out .exit)) ⌝ }
+    ensures { λ r. ⌜ SolveComposed (now (sheet .entry)) (now (limits .entry)) (now (out .exit)) r ⌝ }
+{
+    let mut row = [0u32; MOST_EDGES];
+    let mut column = [0u32; MOST_EDGES];
+    let mut weight = [0i32; MOST_EDGES];
+    let mut bound = [0i32; MOST_VERTICES];
+    match problem_reader::read_problem(
+        sheet,
+        limits,
+        &mut row,
+        &mut column,
+        &mut weight,
+        &mut bound,
+    ) {
+        ProblemAnswer::Refused { source, refusal } => report::put_refused(out, source, refusal),
+        ProblemAnswer::Read(s) => {
+            let n = checks::vertex_count(s) as usize;
+            let m = s.edges as usize;
+            solve_problem(s, &row[..m], &column[..m], &weight[..m], &bound[..n], out)
+        }
+    }
+}

@@ -1,6 +1,0 @@
--- The laws of the stages, and that the method's end is a solution.
-pub mod Filling
-pub mod Start
-pub mod Serving
-pub mod Paying
-pub mod Final

@@ -1,0 +1,93 @@
+-- How an edge leads: its tail and head, and its slack.
+use Prim.Native.Nat.{ℕ, _+_, _-_, _≤_, _<_}
+use mathlib.Core.Path.{_≡_, ap}
+use mathlib.Core.Logic.{_≢_, _⊎_, inl, inr, ⊎-elim}
+use mathlib.Core.Bool.{Bool, cond}
+use mathlib.Core.List.{List}
+use native.Mathlib.Omega.{arith}
+use native.Mathlib.Nat.{eq-zero-or-pos}
+use native.Mathlib.Decide.{decLt}
+use lib.Dec.{eqb}
+use borrow.Author.Tests.{ne-eqb}
+use lib.IntN.{ℤ}
+use lib.ListN.{length, set}
+use lib.Seq.{getD-set-same, getD-set-other}
+use Rattle.graph.specs.Graph.{Graph, vertices, firstEnd, secondEnd}
+use Rattle.graph.specs.Subgraph.{markAt}
+use Rattle.tree.specs.Method.{value, cost, Solvable, Good}
+use Rattle.tree.proofs.Solvable.{rows-in, first-to, second-to}
+use Rattle.tree.specs.Tree.{entries, tail, head, apart, slack}
+
+pub lt-or-ge : (a b : ℕ) → (a < b) ⊎ (b ≤ a)
+lt-or-ge a b = elim (decLt a b) [ yes h ↦ inl h | no h ↦ inr (omega (arith, h)) ]
+
+-- An edge that is not chosen, and one that is.
+pub record Out (g : Graph) (x : List ℕ) (e : ℕ) : Type 0 where
+  pub mark : markAt x e ≡ 0
+  pub from : tail g x e ≡ firstEnd g e
+  pub to : head g x e ≡ secondEnd g e
+
+pub record Back (g : Graph) (x : List ℕ) (e : ℕ) : Type 0 where
+  pub mark : markAt x e ≡ 1
+  pub from : tail g x e ≡ secondEnd g e
+  pub to : head g x e ≡ firstEnd g e
+
+module _ (g : Graph) (x : List ℕ) (e : ℕ) where
+  pub out : markAt x e ≡ 0 → Out g x e
+  out z = record {
+    mark = z;
+    from = ap (λ k. cond (eqb k 0) (firstEnd g e) (secondEnd g e)) z;
+    to = ap (λ k. cond (eqb k 0) (secondEnd g e) (firstEnd g e)) z;
+  }
+
+  pub back : markAt x e ≡ 1 → Back g x e
+  back o = record {
+    mark = o;
+    from = ap (λ k. cond (eqb k 0) (firstEnd g e) (secondEnd g e)) o;
+    to = ap (λ k. cond (eqb k 0) (secondEnd g e) (firstEnd g e)) o;
+  }
+
+  pub arc : markAt x e ≤ 1 → Out g x e ⊎ Back g x e
+  arc m = ⊎-elim (λ z. inl (out z)) (λ s. inr (back (omega arith))) (eq-zero-or-pos (markAt x e))
+
+-- The test of a mark, by its value.
+pub mark-none : {k : ℕ} (a b : ℕ) → k ≡ 0 → cond (eqb k 0) a b ≡ a
+mark-none a b z = ap (λ n. cond (eqb n 0) a b) z
+
+pub mark-some : {k : ℕ} (a b : ℕ) → (k ≡ 0 → ⊥) → cond (eqb k 0) a b ≡ b
+mark-some a b n = ap (λ (t : Bool). cond t a b) (ne-eqb _ _ n)
+
+-- A difference without its sign.
+pub apart-over : (a b : ℕ) → b ≤ a → apart a b + b ≡ a
+apart-over a b h = omega arith
+
+pub apart-under : (a b : ℕ) → a ≤ b → apart a b + a ≡ b
+apart-under a b h = omega arith
+
+pub apart-none : (a b : ℕ) → apart a b ≡ 0 → a ≡ b
+apart-none a b h = omega arith
+
+module _ {g : Graph} {bound : List ℤ} {x : List ℕ} {price : ℕ → ℕ} (good : Good g bound x price) (e : ℕ) (inside : e < g .edges) where
+  pub leads : Out g x e ⊎ Back g x e
+  leads = arc g x e (good .marks e)
+
+  pub slack-out : Out g x e → slack g price e + value g e ≡ cost g price e
+  slack-out o = apart-over _ _ (good .loose e inside (o .mark))
+
+  pub slack-back : Back g x e → slack g price e + cost g price e ≡ value g e
+  slack-back o = apart-under _ _ (good .chosen e inside (o .mark))
+
+-- An edge leads to a vertex, whatever its mark.
+pub head-in : {g : Graph} → Solvable g → (x : List ℕ) (e : ℕ) → e < g .edges → head g x e < vertices g
+head-in {g} net x e l = ⊎-elim
+    (λ z. omega (arith, mark-none (secondEnd g e) (firstEnd g e) z, second-to net e l))
+    (λ s. omega (arith, mark-some {k = markAt x e} (secondEnd g e) (firstEnd g e) (λ z. omega (arith, z)), first-to net e l, rows-in net))
+    (eq-zero-or-pos (markAt x e))
+
+-- The function f′ is f, but for a at v.
+pub record Put (f f′ : ℕ → ℕ) (v a : ℕ) : Type 0 where
+  pub at : f′ v ≡ a
+  pub other : (w : ℕ) → w ≢ v → f′ w ≡ f w
+
+pub put-set : (xs : List ℕ) (v a : ℕ) → v < length xs → Put (entries xs) (entries (set xs v a)) v a
+put-set xs v a l = record { at = getD-set-same xs v a 0 l; other = λ w n. getD-set-other xs v w a 0 n }

@@ -1,0 +1,82 @@
+-- What a graph that the solver's tests have passed gives, edge by edge.
+use Prim.Native.Nat.{ℕ, _+_, _*_, _≤_, _<_}
+use mathlib.Core.Path.{_≡_, refl, subst, sym}
+use mathlib.Core.List.{List}
+use native.Mathlib.Omega.{arith}
+use lib.IntN.{ℤ, pos, negsuc, _+ℤ_}
+use lib.ListN.{length}
+use Rattle.integers.specs.Integer.{up, dn, Within}
+use Rattle.integers.proofs.Order.{up-add}
+use Rattle.graph.specs.declared.Kind.{Kind}
+use Rattle.graph.specs.declared.Kind.the-variants.{Bipartite, General}
+use Rattle.graph.specs.Limits.{mostVertices, mostEdges, greatestWeight}
+use Rattle.graph.specs.Graph.{Graph, vertices, verticesOf, columnVertex, columnAt, weightAt, firstEnd, secondEnd}
+use Rattle.graph.specs.Passed.{Passed, MarksHold}
+use Rattle.graph.proofs.Passed.{weight-hold}
+use Rattle.tree.specs.Method.{level, value, Solvable, Good}
+use Rattle.tree.specs.Tree.{levels, Levelled}
+
+-- The row vertices are among the vertices, and come first in a bipartite graph.
+pub rows-among : (k : Kind) (rows columns : ℕ) → rows ≤ verticesOf k rows columns
+rows-among Bipartite rows columns = omega arith
+rows-among General rows columns = omega arith
+
+pub after-rows : (k : Kind) (rows c : ℕ) → k ≡ Bipartite → rows ≤ columnVertex k rows c
+after-rows k rows c e = subst (λ (k : Kind). rows ≤ columnVertex k rows c) (sym e) (omega arith)
+
+-- A weight in range has a value in range.
+value-range : (w : ℤ) → Within greatestWeight w → (level ≤ up (w +ℤ pos (2 * level))) × (up (w +ℤ pos (2 * level)) ≤ 3 * level)
+value-range w l = go (w +ℤ pos (2 * level)) (up-add w (pos (2 * level)))
+  where
+    go : (y : ℤ) → up y + (dn w + 0) ≡ (up w + 2 * level) + dn y → (level ≤ up y) × (up y ≤ 3 * level)
+    go (pos n) e = (omega arith, omega arith)
+    go (negsuc n) e = absurd (omega arith)
+
+pub weight-within : {g : Graph} → Passed g → (e : ℕ) → e < g .edges → Within greatestWeight (weightAt g e)
+weight-within {g} p e l = weight-hold (weightAt g e) (p .weights e l)
+
+pub value-in : {g : Graph} → Passed g → (e : ℕ) → e < g .edges → (level ≤ value g e) × (value g e ≤ 3 * level)
+value-in {g} p e l = value-range (weightAt g e) (weight-within p e l)
+
+module _ {g : Graph} (s : Solvable g) where
+  pub few : vertices g ≤ mostVertices
+  few = s .passed .sound .sizes .order
+
+  pub small : g .edges ≤ mostEdges
+  small = s .passed .sound .sizes .few
+
+  pub rows-in : g .rows ≤ vertices g
+  rows-in = rows-among (g .kind) (g .rows) (g .columns)
+
+  pub root-in : {v : ℕ} → v < g .rows → v < vertices g
+  root-in l = omega (arith, rows-in)
+
+  -- What the index of a row says of an edge.
+  pub at-edge : {e : ℕ} → e < length (g .row) → e < g .edges
+  at-edge l = omega (arith, s .passed .sound .rowLong)
+
+  module _ (e : ℕ) (l : e < g .edges) where
+    pub first-to : firstEnd g e < g .rows
+    first-to = s .passed .sound .ends e l .inRows
+
+    pub second-from : g .rows ≤ secondEnd g e
+    second-from = after-rows (g .kind) (g .rows) (columnAt g e) (s .bipartite)
+
+    pub second-to : secondEnd g e < vertices g
+    second-to = s .passed .sound .ends e l .second
+
+    pub value-least : level ≤ value g e
+    value-least = value-in (s .passed) e l .0
+
+    pub value-most : value g e ≤ 3 * level
+    value-most = value-in (s .passed) e l .1
+
+-- What is kept throughout holds of the prices and of the marks.
+pub levelled : {g : Graph} {bound price : List ℤ} {x : List ℕ} → length price ≡ vertices g → Good g bound x (levels price) → Levelled (vertices g) price
+levelled long good = record { long = long; least = good .least; most = good .most }
+
+pub levelled-all : {n : ℕ} {price : List ℤ} → Levelled n price → Levelled (length price) price
+levelled-all p = record { long = refl; least = λ v l. p .least v (omega (arith, p .long)); most = λ v l. p .most v (omega (arith, p .long)) }
+
+pub marks-hold : {g : Graph} {bound : List ℤ} {x : List ℕ} {price : ℕ → ℕ} → Good g bound x price → MarksHold (g .edges) x
+marks-hold good = record { long = good .long; each = λ e l. good .marks e }
