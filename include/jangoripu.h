@@ -1,14 +1,22 @@
-/* The six calls of Jangoripu, exported from the static library libjangoripu.a (`rt staticlib jangoripu`).
+/* The six calls of Jangoripu, exported from the static library libjangoripu.a, and a small layer over them at the end of this file.
  *
- * A slice is passed as a pointer and then its length, in numbers. A pointer may point anywhere if its length is 0, but is not null.
- * Slices that are written do not overlap any other.
+ * A sheet is a graph: fish are its vertices, pairs its edges, merits its weights, limits its bounds; a plan is a subgraph, a group an
+ * odd set and a leftover a slack. On a two-sided sheet (a bipartite graph) the dams are the rows and the sires the columns; on a
+ * one-sided sheet (a general graph) rows and columns are both the number of families.
  *
- * Each call returns 0 for a result, or the number of a refusal (document 01, the refusal table). The place of the refusal is told, or 0.
- * After a refusal every output and workspace number is 0, and so is every number told but the place.
+ * Vertices: row i is vertex i, and column j of a two-sided sheet is vertex rows + j; on a one-sided sheet family i is vertex i. There
+ * are rows + columns vertices, or rows on a one-sided sheet. Edges are numbered in the order of the sheet. Both count from 1, so
+ * vertex v and edge e stand at [v - 1] and [e - 1] of their arrays. Rows and columns hold numbers from 1, as the text does.
  *
- * A kind is a bool: false for a two-sided sheet (a bipartite graph), true for a one-sided sheet (a general graph). Rows, columns and
- * the numbers of edges and of odd sets are taken as passed, whatever they are, and tested.
- */
+ * A slice is passed as a pointer and then its length, in numbers, which is exactly what is said at the call. A pointer may point
+ * anywhere if its length is 0, but is NOT NULL; the layer below takes care of that. Slices that are written overlap no other.
+ *
+ * Each call returns JANGORIPU_OK, which is 0, or the number of a refusal, and tells the refusal's place, or 0. After a refusal every
+ * output and workspace number is 0, and so is every number told but the place. Rows, columns and the numbers of edges and of odd sets
+ * are taken as passed, whatever they are, and tested.
+ *
+ * The calls use no heap, no files and no state of their own, so they are reentrant: several may run at a time, each with its own
+ * slices. A call uses at most JANGORIPU_STACK bytes of stack. */
 #ifndef JANGORIPU_H
 #define JANGORIPU_H
 
@@ -20,46 +28,239 @@
 extern "C" {
 #endif
 
-/* Reads a sheet. row, column and weight (merit) have 1,024 numbers each.
- * answer: place; kind (0 two-sided, 1 one-sided); rows; columns; number of edges (pairs).
- * Refusals: 9, 1, then line by line 2, 3, 4, 5, 6, 7, 8. */
+/* What is refused, and which place is told: the line of a text, or the number of an edge, a vertex, a price or an odd set, from 1; or 0. */
+enum jangoripu_refusal {
+    JANGORIPU_OK = 0,            /* a result */
+    JANGORIPU_TEXT_LENGTH = 1,   /* the text is too long; 0 */
+    JANGORIPU_HEADER = 2,        /* the first line is absent, too long or no accepted header; 1 */
+    JANGORIPU_SIZE_LINE = 3,     /* the size line is absent, malformed or too long; line */
+    JANGORIPU_SIZES = 4,         /* sizes out of range, or not the count asked for; line, or 0 for numbers that are passed */
+    JANGORIPU_LATER_LINE = 5,    /* a later line is malformed, too long, missing or surplus; line */
+    JANGORIPU_ENDS = 6,          /* an end out of range or on the wrong side; line or edge */
+    JANGORIPU_WEIGHT = 7,        /* a weight (merit) out of range; line or edge */
+    JANGORIPU_SAME_ENDS = 8,     /* the same ends as an earlier edge (pair); the later line or edge */
+    JANGORIPU_LENT_LENGTH = 9,   /* a slice has a wrong length; 0 */
+    JANGORIPU_BOUND = 10,        /* a bound (limit) out of range; line or vertex */
+    JANGORIPU_MARK = 11,         /* a mark is neither 0 nor 1; edge */
+    JANGORIPU_DEGREE = 12,       /* a vertex (fish) is used more often than its bound; vertex */
+    JANGORIPU_PRICE = 13,        /* a price out of range; line, or position in vertex, then edge, then set prices */
+    JANGORIPU_ODD_SET = 14,      /* an odd set (group) breaks a rule, or there are too many; set, or 17 */
+    JANGORIPU_UNCOVERED = 15,    /* an edge (pair) is not covered; edge */
+    JANGORIPU_NOT_BIPARTITE = 16, /* a one-sided sheet given to the solver; 0 */
+    JANGORIPU_DISAGREEMENT = 17  /* a plan's kind, rows, columns or count disagree with the sheet, or its pair is not on it; line */
+};
+
+/* Lengths and ranges. */
+#define JANGORIPU_MOST_SIDE 64           /* rows, and columns, of a two-sided sheet; from 1 */
+#define JANGORIPU_MOST_VERTICES 128      /* vertices; families of a one-sided sheet */
+#define JANGORIPU_MOST_EDGES 1024        /* edges; the length of a sheet reader's outputs */
+#define JANGORIPU_MOST_NUMBERS 1152      /* numbers in a text of limits or prices */
+#define JANGORIPU_GREATEST_WEIGHT 1000000 /* a weight is from -1,000,000 to 1,000,000 */
+#define JANGORIPU_GREATEST_BOUND 64      /* a bound is from 0 to 64 */
+#define JANGORIPU_GREATEST_PRICE 2000000 /* a price is from 0 to 2,000,000, the solver's to 1,000,000 */
+#define JANGORIPU_MOST_SETS 16           /* odd sets (groups) */
+#define JANGORIPU_VERTEX_WORDS 2         /* 64-bit words of an odd set that mark vertices */
+#define JANGORIPU_EDGE_WORDS 16          /* 64-bit words of an odd set that mark edges */
+#define JANGORIPU_LONGEST_TEXT 32768     /* bytes of a text */
+#define JANGORIPU_LONGEST_LINE 1024      /* bytes of a line */
+#define JANGORIPU_SUBGRAPH_BYTES 16384   /* the length of a plan writer's output */
+#define JANGORIPU_WORKSPACE_NUMBERS 4096 /* the length of the solver's workspace */
+#define JANGORIPU_STACK 65536            /* bytes of stack that a call may use */
+
+/* Where the numbers stand that a call tells. */
+enum { JANGORIPU_GRAPH_PLACE, JANGORIPU_GRAPH_KIND, JANGORIPU_GRAPH_ROWS, JANGORIPU_GRAPH_COLUMNS, JANGORIPU_GRAPH_EDGES, JANGORIPU_GRAPH_TOLD };
+enum { JANGORIPU_TEXT_PLACE, JANGORIPU_TEXT_BYTES, JANGORIPU_TEXT_TOLD };
+enum {
+    JANGORIPU_MEASURED_WEIGHT,   /* the plan's merit */
+    JANGORIPU_MEASURED_TOTAL,    /* the prices' total */
+    JANGORIPU_MEASURED_VERTICES, /* slack (leftover) of vertices (fish) */
+    JANGORIPU_MEASURED_SETS,     /* of odd sets (groups) */
+    JANGORIPU_MEASURED_EDGES,    /* of edges (pairs) */
+    JANGORIPU_MEASURED_COVER,    /* of cover */
+    JANGORIPU_MEASURED_GAP,      /* total minus weight, which is the four slacks added up */
+    JANGORIPU_MEASURED_TOLD
+};
+
+/* Reads a sheet. row, column and weight have exactly 1,024 numbers each; those after the last edge are 0 afterwards.
+ * answer: place; kind (0 two-sided, 1 one-sided); rows; columns; number of edges.
+ * Refusals: 9, 1, then line by line 2, 3, 4, 5, 6, 7, 8. No pointer is null. */
 uint32_t jangoripu_read_graph(const uint8_t *text, size_t text_len, uint32_t *row, size_t row_len, uint32_t *column, size_t column_len,
                               int32_t *weight, size_t weight_len, uint64_t answer[5]);
 
-/* Reads count bounds (limits) or prices; out has count numbers. prices: false for limits, true for prices.
- * Refusals: 9, 4 at place 0, 1, then line by line 2, 3, 4, 5, 10 or 13. */
+/* Reads count bounds (limits) or prices, count from 1 to 1,152; out has exactly count numbers. prices: false for limits, true for prices.
+ * Refusals: 9, 4 at place 0, 1, then line by line 2, 3, 4, 5, 10 or 13. No pointer is null. */
 uint32_t jangoripu_read_numbers(const uint8_t *text, size_t text_len, bool prices, uint32_t count, int32_t *out, size_t out_len,
                                 uint64_t *place);
 
-/* Reads a subgraph (plan) of a graph; chosen has a mark for each edge.
- * Refusals: 9, 4, 6, 7, 8 of the graph's numbers, 1, then line by line 2, 17, 3, 4, 17, 5, 6, 17, 8. */
+/* Reads a plan of a sheet. row, column, weight and chosen have exactly edges numbers each; chosen gets a mark for each edge, 1 or 0.
+ * general: false for a two-sided sheet, true for a one-sided one; so in every call below.
+ * Refusals: 9, 4, 6, 7, 8 of the sheet's numbers, 1, then line by line 2, 17, 3, 4, 17, 5, 6, 17, 8. No pointer is null. */
 uint32_t jangoripu_read_subgraph(const uint8_t *text, size_t text_len, bool general, uint32_t rows, uint32_t columns, uint32_t edges,
                                  const uint32_t *row, size_t row_len, const uint32_t *column, size_t column_len,
                                  const int32_t *weight, size_t weight_len, uint8_t *chosen, size_t chosen_len, uint64_t *place);
 
-/* Writes a subgraph (plan) as a text; out has 16,384 bytes, 0 after the text's end.
- * answer: place; length of the text. Refusals: 9, 4, 6, 7, 8, 11. */
+/* Writes a plan as a text. row, column, weight and chosen have exactly edges numbers each, out exactly 16,384 bytes, 0 after the text.
+ * answer: place; length of the text. Refusals: 9, 4, 6, 7, 8, 11. No pointer is null. */
 uint32_t jangoripu_write_subgraph(bool general, uint32_t rows, uint32_t columns, uint32_t edges, const uint32_t *row, size_t row_len,
                                   const uint32_t *column, size_t column_len, const int32_t *weight, size_t weight_len,
                                   const uint8_t *chosen, size_t chosen_len, uint8_t *out, size_t out_len, uint64_t answer[2]);
 
-/* Solves a two-sided sheet: a plan of largest merit, and prices that prove it. bound (limits) and vertex_price (fish prices) have a
- * number for each vertex, chosen and edge_price (pair prices) one for each edge, workspace 4,096, all 0 afterwards.
- * Refusals: 9, 4, 6, 7, 8, 10, 16. */
+/* Solves a two-sided sheet: a plan of largest merit, and prices that prove it. bound and vertex_price have exactly a number for each
+ * vertex; row, column, weight, chosen and edge_price exactly one for each edge; workspace exactly 4,096, all 0 afterwards.
+ * Refusals: 9, 4, 6, 7, 8, 10, 16. No pointer is null. */
 uint32_t jangoripu_solve(bool general, uint32_t rows, uint32_t columns, uint32_t edges, const uint32_t *row, size_t row_len,
                          const uint32_t *column, size_t column_len, const int32_t *weight, size_t weight_len, const int32_t *bound,
                          size_t bound_len, uint8_t *chosen, size_t chosen_len, int32_t *vertex_price, size_t vertex_price_len,
                          int32_t *edge_price, size_t edge_price_len, int32_t *workspace, size_t workspace_len, uint64_t *place);
 
-/* Measures a subgraph (plan) against prices. sets odd sets (groups) have a price each, 2 words of vertices and 16 words of edges.
- * numbers: weight (merit), total, slack (leftover) of vertices (fish), odd sets (groups), edges (pairs), cover; gap.
- * Refusals: 9, 4, 6, 7, 8, 10, 11, 12, 13, 14, 15. */
+/* Measures a plan against prices, on a sheet of either sort. bound and vertex_price have exactly a number for each vertex; row, column,
+ * weight, chosen and edge_price exactly one for each edge; set_price exactly one for each odd set, set_vertices 2 words and set_edges
+ * 16 words for each, set after set. Vertex v is bit (v - 1) % 64 of word (v - 1) / 64 of its set, bit 0 the lowest, and edge e likewise;
+ * bits above the last vertex or edge are 0. An odd set marks at least one vertex; a marked edge has exactly one end marked; the bounds of
+ * its vertices plus the number of its marked edges is odd, 2q + 1, and it covers its marked edges and those with both ends marked.
+ * numbers: weight, total, slack of vertices, of odd sets, of edges, of cover, and gap.
+ * Refusals: 9, 4, 6, 7, 8, 10, 11, 12, 13, 14, 15. No pointer is null. */
 uint32_t jangoripu_measure(bool general, uint32_t rows, uint32_t columns, uint32_t edges, const uint32_t *row, size_t row_len,
                            const uint32_t *column, size_t column_len, const int32_t *weight, size_t weight_len, const int32_t *bound,
                            size_t bound_len, const uint8_t *chosen, size_t chosen_len, const int32_t *vertex_price,
                            size_t vertex_price_len, const int32_t *edge_price, size_t edge_price_len, uint32_t sets,
                            const int32_t *set_price, size_t set_price_len, const uint64_t *set_vertices, size_t set_vertices_len,
                            const uint64_t *set_edges, size_t set_edges_len, int64_t numbers[7], uint64_t *place);
+
+/* ---- A layer over the calls: a sheet by its pointers. The lengths follow from the sheet, so they cannot be wrong (9), and a pointer
+ * may be null where its length is 0. Each function returns what its call returns; place may be null. */
+
+/* A sheet: its kind and sizes, and what its arrays hold. bound may be null where no limits are asked for. */
+typedef struct jangoripu_sheet {
+    bool general;
+    uint32_t rows, columns, edges;
+    const uint32_t *row, *column; /* edges numbers each */
+    const int32_t *weight;        /* edges numbers */
+    const int32_t *bound;         /* a number for each vertex */
+} jangoripu_sheet;
+
+/* A price sheet: a price for each vertex and each edge, and the odd sets, of which there may be none. */
+typedef struct jangoripu_prices {
+    const int32_t *vertex, *edge;
+    uint32_t sets;
+    const int32_t *set;
+    const uint64_t *set_vertices; /* 2 words a set */
+    const uint64_t *set_edges;    /* 16 words a set */
+} jangoripu_prices;
+
+/* What a measuring tells, by the names that `mark` uses. */
+typedef struct jangoripu_measures {
+    int64_t merit, total, fish, groups, pairs, cover, gap;
+} jangoripu_measures;
+
+/* The number of vertices. */
+static inline size_t jangoripu_vertices(const jangoripu_sheet *s) {
+    return s->general ? (size_t)s->rows : (size_t)s->rows + s->columns;
+}
+
+/* A pointer that is not null, and the place that is told, if it is asked for. */
+static inline const void *jangoripu_some(const void *pointer) {
+    static const uint64_t nothing = 0;
+    return pointer != NULL ? pointer : (const void *)&nothing;
+}
+
+static inline uint32_t jangoripu_told(uint32_t refusal, uint64_t at, uint64_t *place) {
+    if (place != NULL)
+        *place = at;
+    return refusal;
+}
+
+/* Reads a sheet into arrays of 1,024 numbers each, and points s at them; s has no bounds then. */
+static inline uint32_t jangoripu_sheet_read(jangoripu_sheet *s, const void *text, size_t length, uint32_t *row, uint32_t *column,
+                                            int32_t *weight, uint64_t *place) {
+    uint64_t told[JANGORIPU_GRAPH_TOLD];
+    uint32_t refusal = jangoripu_read_graph((const uint8_t *)jangoripu_some(text), length, row, JANGORIPU_MOST_EDGES, column,
+                                            JANGORIPU_MOST_EDGES, weight, JANGORIPU_MOST_EDGES, told);
+    s->general = told[JANGORIPU_GRAPH_KIND] == 1;
+    s->rows = (uint32_t)told[JANGORIPU_GRAPH_ROWS];
+    s->columns = (uint32_t)told[JANGORIPU_GRAPH_COLUMNS];
+    s->edges = (uint32_t)told[JANGORIPU_GRAPH_EDGES];
+    s->row = row;
+    s->column = column;
+    s->weight = weight;
+    s->bound = NULL;
+    return jangoripu_told(refusal, told[JANGORIPU_GRAPH_PLACE], place);
+}
+
+/* Reads the sheet's limits into an array of at least as many numbers as it has vertices (128 always do), and points s at them. */
+static inline uint32_t jangoripu_limits_read(jangoripu_sheet *s, const void *text, size_t length, int32_t *bound, uint64_t *place) {
+    uint64_t at;
+    size_t n = jangoripu_vertices(s);
+    uint32_t refusal = jangoripu_read_numbers((const uint8_t *)jangoripu_some(text), length, false, (uint32_t)n, bound, n, &at);
+    s->bound = bound;
+    return jangoripu_told(refusal, at, place);
+}
+
+/* Reads a price sheet without groups: price gets the vertices' prices and then the edges', and p points at them. */
+static inline uint32_t jangoripu_prices_read(const jangoripu_sheet *s, const void *text, size_t length, int32_t *price, jangoripu_prices *p,
+                                             uint64_t *place) {
+    uint64_t at;
+    size_t n = jangoripu_vertices(s), count = n + s->edges;
+    uint32_t refusal = jangoripu_read_numbers((const uint8_t *)jangoripu_some(text), length, true, (uint32_t)count, price, count, &at);
+    p->vertex = price;
+    p->edge = price + n;
+    p->sets = 0;
+    p->set = NULL;
+    p->set_vertices = p->set_edges = NULL;
+    return jangoripu_told(refusal, at, place);
+}
+
+/* Reads a plan of the sheet; chosen has room for a mark for each edge. */
+static inline uint32_t jangoripu_plan_read(const jangoripu_sheet *s, const void *text, size_t length, uint8_t *chosen, uint64_t *place) {
+    uint64_t at;
+    uint32_t refusal = jangoripu_read_subgraph((const uint8_t *)jangoripu_some(text), length, s->general, s->rows, s->columns, s->edges,
+                                               s->row, s->edges, s->column, s->edges, s->weight, s->edges, chosen, s->edges, &at);
+    return jangoripu_told(refusal, at, place);
+}
+
+/* Writes a plan of the sheet; out has 16,384 bytes, and *length is how many of them the text has. */
+static inline uint32_t jangoripu_plan_write(const jangoripu_sheet *s, const uint8_t *chosen, uint8_t *out, size_t *length, uint64_t *place) {
+    uint64_t told[JANGORIPU_TEXT_TOLD];
+    uint32_t refusal = jangoripu_write_subgraph(s->general, s->rows, s->columns, s->edges, s->row, s->edges, s->column, s->edges, s->weight,
+                                                s->edges, (const uint8_t *)jangoripu_some(chosen), s->edges, out, JANGORIPU_SUBGRAPH_BYTES,
+                                                told);
+    *length = (size_t)told[JANGORIPU_TEXT_BYTES];
+    return jangoripu_told(refusal, told[JANGORIPU_TEXT_PLACE], place);
+}
+
+/* Solves the sheet: a plan of largest merit, and prices of its vertices and edges that prove it; workspace has 4,096 numbers. */
+static inline uint32_t jangoripu_sheet_solve(const jangoripu_sheet *s, uint8_t *chosen, int32_t *vertex_price, int32_t *edge_price,
+                                             int32_t *workspace, uint64_t *place) {
+    uint64_t at;
+    size_t n = jangoripu_vertices(s);
+    uint32_t refusal = jangoripu_solve(s->general, s->rows, s->columns, s->edges, s->row, s->edges, s->column, s->edges, s->weight, s->edges,
+                                       (const int32_t *)jangoripu_some(s->bound), s->bound != NULL ? n : 0, chosen, s->edges, vertex_price,
+                                       n, edge_price, s->edges, workspace, JANGORIPU_WORKSPACE_NUMBERS, &at);
+    return jangoripu_told(refusal, at, place);
+}
+
+/* Measures a plan of the sheet against a price sheet. */
+static inline uint32_t jangoripu_plan_measure(const jangoripu_sheet *s, const uint8_t *chosen, const jangoripu_prices *p,
+                                              jangoripu_measures *m, uint64_t *place) {
+    int64_t told[JANGORIPU_MEASURED_TOLD];
+    uint64_t at;
+    size_t n = jangoripu_vertices(s), sets = p->sets;
+    uint32_t refusal = jangoripu_measure(s->general, s->rows, s->columns, s->edges, s->row, s->edges, s->column, s->edges, s->weight,
+                                         s->edges, (const int32_t *)jangoripu_some(s->bound), s->bound != NULL ? n : 0,
+                                         (const uint8_t *)jangoripu_some(chosen), s->edges, p->vertex, n,
+                                         (const int32_t *)jangoripu_some(p->edge), s->edges, p->sets,
+                                         (const int32_t *)jangoripu_some(p->set), sets,
+                                         (const uint64_t *)jangoripu_some(p->set_vertices), JANGORIPU_VERTEX_WORDS * sets,
+                                         (const uint64_t *)jangoripu_some(p->set_edges), JANGORIPU_EDGE_WORDS * sets, told, &at);
+    m->merit = told[JANGORIPU_MEASURED_WEIGHT];
+    m->total = told[JANGORIPU_MEASURED_TOTAL];
+    m->fish = told[JANGORIPU_MEASURED_VERTICES];
+    m->groups = told[JANGORIPU_MEASURED_SETS];
+    m->pairs = told[JANGORIPU_MEASURED_EDGES];
+    m->cover = told[JANGORIPU_MEASURED_COVER];
+    m->gap = told[JANGORIPU_MEASURED_GAP];
+    return jangoripu_told(refusal, at, place);
+}
 
 #ifdef __cplusplus
 }

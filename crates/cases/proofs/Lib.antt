@@ -1,3 +1,4 @@
--- The law of trying every subgraph, and the twelve cases.
+-- The law of trying every subgraph, the computed test of the table, and the twelve cases.
 pub mod Trying
+pub mod Test
 pub mod Cases

@@ -3,7 +3,7 @@ use Prim.Native.Nat.{ℕ, zero, suc, _≤_, _<_}
 use mathlib.Core.Path.{_≡_, refl, sym, ap, _∙_, subst}
 use mathlib.Core.Logic.{_⊎_, inl, inr}
 use mathlib.Core.Bool.{Bool, true, false, cond, _&&_}
-use mathlib.Core.List.{List, [], _∷_, map, List·Memᴰ, List·Memᴰ·head, List·Memᴰ·tail, List·Memᴰ·cases-cons, List·Memᴰ·not-nil, Memᴰ·append-left}
+use mathlib.Core.List.{List, [], _∷_, _++_, map, List·Memᴰ, List·Memᴰ·head, List·Memᴰ·tail, List·Memᴰ·cases-cons, List·Memᴰ·not-nil, Memᴰ·append-left}
 use mathlib.Core.List.{Memᴰ·append-right}
 use mathlib.Core.Option.{Option, none, some}
 use native.Mathlib.Omega.{arith}
@@ -17,7 +17,29 @@ use Rattle.graph.specs.Graph.{Graph, vertices, boundAt, every}
 use Rattle.graph.specs.Subgraph.{markAt, degree, weightOf, Feasible, Optimal}
 use Rattle.graph.proofs.Passing.{zero-one, every-true, true-every}
 use Rattle.graph.proofs.Ranges.{both, _also_}
-use Rattle.cases.specs.Trying.{subgraphs, isFeasible, larger, bestOf, best}
+
+-- Every list of m marks.
+abbrev pub subgraphs : ℕ → List (List ℕ)
+subgraphs zero = [] ∷ []
+subgraphs (suc m) = map (λ x. 0 ∷ x) (subgraphs m) ++ map (λ x. 1 ∷ x) (subgraphs m)
+
+-- The test whether a subgraph is feasible.
+abbrev pub isFeasible : Graph → List ℤ → List ℕ → Bool
+isFeasible g bound x =
+    eqb (length x) (g .edges) && every (g .edges) (λ e. leb (markAt x e) 1)
+    && every (vertices g) (λ v. leZ (pos (degree g x v)) (boundAt bound v))
+
+abbrev pub larger : ℤ → Option ℤ → ℤ
+larger w none = w
+larger w (some v) = cond (leZ w v) v w
+
+-- The largest weight of the feasible ones among xs, if there is one.
+abbrev pub bestOf : Graph → List ℤ → List (List ℕ) → Option ℤ
+bestOf g bound [] = none
+bestOf g bound (x ∷ xs) = cond (isFeasible g bound x) (some (larger (weightOf g x) (bestOf g bound xs))) (bestOf g bound xs)
+
+abbrev pub best : Graph → List ℤ → Option ℤ
+best g bound = bestOf g bound (subgraphs (g .edges))
 
 -- The test of feasibility means what it should.
 module _ (g : Graph) (bound : List ℤ) (x : List ℕ) where
@@ -163,3 +185,11 @@ module _ (g : Graph) (bound : List ℤ) where
   weighs-best x p e =
       let F = found-best (subgraphs (g .edges)) (weightOf g x) e in
       record { feasible = feasible-yes g bound x p; most = λ y f. F .most y (tried (g .edges) y (f .long) (f .marks)) (yes-feasible g bound y f) }
+
+  -- Where one subgraph is feasible, one is optimal.
+  pub some-optimal : (x : List ℕ) → Feasible g bound x → (y : List ℕ) × Optimal g bound y
+  some-optimal x f = go (best g bound) refl
+    where
+      go : (o : Option ℤ) → best g bound ≡ o → (y : List ℕ) × Optimal g bound y
+      go none e = absurd (none-found (subgraphs (g .edges)) e x (tried (g .edges) x (f .long) (f .marks)) (yes-feasible g bound x f))
+      go (some w) e = let b = best-optimal w e in (b .0, b .1)

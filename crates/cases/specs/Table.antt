@@ -1,24 +1,26 @@
 -- The table for the proof: the twelve marked cases of document 01, each with what must come out.
 use Prim.Native.Nat.{ℕ}
+use Prim.Native.String.{String}
 use mathlib.Core.Path.{_≡_}
-use mathlib.Core.Bool.{Bool, true, false, _&&_}
-use mathlib.Core.List.{List, [], _∷_}
-use mathlib.Core.Option.{Option, none, some}
-use lib.Dec.{eqb}
+use mathlib.Core.List.{List, [], _∷_, _++_}
 use lib.IntN.{ℤ, pos, negsuc}
 use lib.ListN.{length, replicate}
-use lib.Signed.{leZ}
 use Rattle.graph.specs.declared.Kind.the-variants.{Bipartite, General}
-use Rattle.graph.specs.declared.Fault.{Fault}
-use Rattle.graph.specs.Refusal.{Outcome, yields, refuses, numberOf}
-use Rattle.graph.specs.Graph.{Graph, graphOf}
+use Rattle.graph.specs.Limits.{mostEdges}
+use Rattle.graph.specs.Refusal.{Outcome, yields, told, refusedWith}
+use Rattle.graph.specs.Graph.{Graph, graphOf, vertices}
 use Rattle.graph.specs.Subgraph.{Optimal, weightOf}
+use Rattle.layout.specs.declared.Numbers.the-variants.{Bounds}
+use Rattle.layout.specs.Text.{bytes, unlines}
+use Rattle.layout.specs.GraphText.{readGraph}
+use Rattle.layout.specs.NumberText.{readNumbers}
 use Rattle.dual.specs.declared.Measures.{Measures}
 use Rattle.dual.specs.Prices.{Prices}
 use Rattle.dual.specs.Sets.{capacity}
 use Rattle.dual.specs.Measure.{measure}
-use Rattle.dual.specs.Solve.{withoutSets}
-use Rattle.cases.specs.Trying.{isFeasible, best}
+use Rattle.dual.specs.Solve.{solve, withoutSets}
+use Rattle.report.specs.Report.{measuredLine}
+use Rattle.report.specs.Programs.{lentFor}
 
 -- What must come out of a case.
 pub data Claim : Type 0 where
@@ -26,8 +28,8 @@ pub data Claim : Type 0 where
   largest : ℤ → Claim
   -- the case's subgraph lacks nothing
   optimal : Claim
-  -- the line of `mark`: weight (merit), total, slack of vertices (fish), of odd sets (groups), of edges (pairs), of cover, and gap
-  line : ℤ → ℤ → ℤ → ℤ → ℤ → ℤ → ℤ → Claim
+  -- the line of `mark`, before its byte 10
+  line : String → Claim
   -- the gap
   gap : ℤ → Claim
   -- the capacity (group limit) of odd set s
@@ -36,6 +38,15 @@ pub data Claim : Type 0 where
   taken : Claim
   -- measuring refuses with this number at this place
   refused : ℕ → ℕ → Claim
+  -- the solver accepts it, or refuses with this number at this place
+  solved : Claim
+  unsolved : ℕ → ℕ → Claim
+  -- the graph reader takes this text, and reads the case's weights (merits); or it refuses with this number at this line
+  sheetTaken : List ℕ → Claim
+  sheetRefused : List ℕ → ℕ → ℕ → Claim
+  -- the number reader takes this text, and reads the case's bounds (limits); or it refuses with this number at this line
+  limitsTaken : List ℕ → Claim
+  limitsRefused : List ℕ → ℕ → ℕ → Claim
 
 -- A case: its number in document 01, the graph, bounds, subgraph and prices, and what must come out.
 pub record Case : Type 0 where
@@ -46,58 +57,36 @@ pub record Case : Type 0 where
   pub prices : Prices
   pub claims : List Claim
 
+-- What the calls yield of a case, and the readers of a sheet and of limits.
+abbrev pub measuring : Case → Outcome Measures
+measuring c = measure (c .graph) (c .bound) (c .chosen) (c .prices)
+
+abbrev pub solving : Case → Outcome (Unit {0})
+solving c = solve (c .graph) (c .bound) (lentFor (c .graph))
+
+abbrev pub readSheet : List ℕ → Outcome Graph
+readSheet text = readGraph mostEdges mostEdges mostEdges text
+
+abbrev pub readLimits : Case → List ℕ → Outcome (List ℤ)
+readLimits c text = readNumbers Bounds (vertices (c .graph)) (vertices (c .graph)) text
+
 -- What a claim states about the definitions.
 abbrev pub States : Case → Claim → Type 0
 States c (largest w) = (x : List ℕ) × Optimal (c .graph) (c .bound) x × (weightOf (c .graph) x ≡ w)
 States c optimal = Optimal (c .graph) (c .bound) (c .chosen)
-States c (line w t v s e k d) =
-    measure (c .graph) (c .bound) (c .chosen) (c .prices)
-    ≡ yields (record { weight = w; total = t; vertices = v; sets = s; edges = e; cover = k; gap = d })
-States c (gap z) = (m : Measures) × (measure (c .graph) (c .bound) (c .chosen) (c .prices) ≡ yields m) × (m .gap ≡ z)
+States c (line s) = (m : Measures) × (measuring c ≡ yields m) × (measuredLine m ≡ bytes s ++ (10 ∷ []))
+States c (gap z) = (m : Measures) × (measuring c ≡ yields m) × (m .gap ≡ z)
 States c (capacityOf s q) = capacity (c .graph) (c .bound) (c .prices) s ≡ q
-States c taken = (m : Measures) × (measure (c .graph) (c .bound) (c .chosen) (c .prices) ≡ yields m)
-States c (refused n p) = (f : Fault) × (measure (c .graph) (c .bound) (c .chosen) (c .prices) ≡ refuses f p) × (numberOf f ≡ n)
+States c taken = (m : Measures) × (measuring c ≡ yields m)
+States c (refused n p) = told (measuring c) ≡ refusedWith n p
+States c solved = solving c ≡ yields tt
+States c (unsolved n p) = told (solving c) ≡ refusedWith n p
+States c (sheetTaken text) = (g : Graph) × (readSheet text ≡ yields g) × (g .weight ≡ c .graph .weight)
+States c (sheetRefused text n p) = told (readSheet text) ≡ refusedWith n p
+States c (limitsTaken text) = readLimits c text ≡ yields (c .bound)
+States c (limitsRefused text n p) = told (readLimits c text) ≡ refusedWith n p
 
--- The test that is computed.
-abbrev pub sameℤ : ℤ → ℤ → Bool
-sameℤ a b = leZ a b && leZ b a
-
-abbrev pub sameBest : Option ℤ → ℤ → Bool
-sameBest none w = false
-sameBest (some v) w = sameℤ v w
-
-abbrev pub gapIs : Outcome Measures → ℤ → Bool
-gapIs (yields m) z = sameℤ (m .gap) z
-gapIs (refuses f p) z = false
-
-abbrev pub lineIs : Outcome Measures → ℤ → ℤ → ℤ → ℤ → ℤ → ℤ → ℤ → Bool
-lineIs (yields m) w t v s e k d =
-    sameℤ (m .weight) w && sameℤ (m .total) t && sameℤ (m .vertices) v && sameℤ (m .sets) s && sameℤ (m .edges) e && sameℤ (m .cover) k
-    && sameℤ (m .gap) d
-lineIs (refuses f p) w t v s e k d = false
-
-abbrev pub isTaken : Outcome Measures → Bool
-isTaken (yields m) = true
-isTaken (refuses f p) = false
-
-abbrev pub isRefused : Outcome Measures → ℕ → ℕ → Bool
-isRefused (yields m) n p = false
-isRefused (refuses f q) n p = eqb (numberOf f) n && eqb q p
-
-abbrev pub holds : Case → Claim → Bool
-holds c (largest w) = sameBest (best (c .graph) (c .bound)) w
-holds c optimal = isFeasible (c .graph) (c .bound) (c .chosen) && sameBest (best (c .graph) (c .bound)) (weightOf (c .graph) (c .chosen))
-holds c (line w t v s e k d) = lineIs (measure (c .graph) (c .bound) (c .chosen) (c .prices)) w t v s e k d
-holds c (gap z) = gapIs (measure (c .graph) (c .bound) (c .chosen) (c .prices)) z
-holds c (capacityOf s q) = eqb (capacity (c .graph) (c .bound) (c .prices) s) q
-holds c taken = isTaken (measure (c .graph) (c .bound) (c .chosen) (c .prices))
-holds c (refused n p) = isRefused (measure (c .graph) (c .bound) (c .chosen) (c .prices)) n p
-
--- Every member of a list has the property, as a test and as a statement.
-abbrev pub all : {A : Type 0} → (A → Bool) → List A → Bool
-all test [] = true
-all test (x ∷ xs) = test x && all test xs
-
+-- Every member of a list has the property.
 abbrev pub All : {A : Type 0} → (A → Type 0) → List A → Type 0
 All P [] = Unit {0}
 All P (x ∷ xs) = P x × All P xs
@@ -132,6 +121,13 @@ single w = bipartite 1 1 (1 ∷ []) (1 ∷ []) (w ∷ [])
 abbrev triangle : Graph
 triangle = general 3 (2 ∷ 3 ∷ 3 ∷ []) (1 ∷ 1 ∷ 2 ∷ []) (pos 1 ∷ pos 1 ∷ pos 1 ∷ [])
 
+-- The text of a sheet with one edge, from its line, and of limits of two vertices, from the first.
+abbrev sheet : String → List ℕ
+sheet edge = unlines (bytes "%%MatrixMarket matrix coordinate integer general" ∷ bytes "1 1 1" ∷ bytes edge ∷ [])
+
+abbrev limits : String → List ℕ
+limits first = unlines (bytes "%%MatrixMarket matrix array integer general" ∷ bytes "2 1" ∷ bytes first ∷ bytes "1" ∷ [])
+
 -- n times the number 0, or 1.
 abbrev zeros : ℕ → List ℤ
 zeros n = replicate n (pos 0)
@@ -156,7 +152,7 @@ table =
       bound = ones 4;
       chosen = 1 ∷ 0 ∷ 0 ∷ 1 ∷ [];
       prices = withoutSets (pos 2 ∷ pos 1 ∷ pos 3 ∷ pos 2 ∷ []) (zeros 4);
-      claims = line (pos 6) (pos 8) (pos 0) (pos 0) (pos 0) (pos 2) (pos 2) ∷ gap (pos 2) ∷ [];
+      claims = line "merit 6 total 8 fish 0 groups 0 pairs 0 cover 2 gap 2" ∷ gap (pos 2) ∷ [];
     }
     ∷ record {
       number = 4;
@@ -196,7 +192,7 @@ table =
       bound = ones 2;
       chosen = 0 ∷ [];
       prices = withoutSets (pos 1000000 ∷ pos 0 ∷ []) (zeros 1);
-      claims = taken ∷ [];
+      claims = taken ∷ solved ∷ sheetTaken (sheet "1 1 1000000") ∷ [];
     }
     ∷ record {
       number = 8;
@@ -204,7 +200,7 @@ table =
       bound = ones 2;
       chosen = 0 ∷ [];
       prices = withoutSets (pos 1000001 ∷ pos 0 ∷ []) (zeros 1);
-      claims = refused 7 1 ∷ [];
+      claims = refused 7 1 ∷ unsolved 7 1 ∷ sheetRefused (sheet "1 1 1000001") 7 3 ∷ [];
     }
     ∷ record {
       number = 9;
@@ -212,7 +208,7 @@ table =
       bound = pos 64 ∷ pos 1 ∷ [];
       chosen = 0 ∷ [];
       prices = withoutSets (zeros 2) (zeros 1);
-      claims = taken ∷ [];
+      claims = taken ∷ solved ∷ limitsTaken (limits "64") ∷ [];
     }
     ∷ record {
       number = 9;
@@ -220,7 +216,7 @@ table =
       bound = pos 65 ∷ pos 1 ∷ [];
       chosen = 0 ∷ [];
       prices = withoutSets (zeros 2) (zeros 1);
-      claims = refused 10 1 ∷ [];
+      claims = refused 10 1 ∷ unsolved 10 1 ∷ limitsRefused (limits "65") 10 3 ∷ [];
     }
     ∷ record {
       number = 10;
@@ -247,7 +243,3 @@ table =
       claims = gap (pos 0) ∷ [];
     }
     ∷ []
-
--- The whole table's test.
-abbrev pub tableHolds : Bool
-tableHolds = all (λ c. all (holds c) (c .claims)) table

@@ -7,7 +7,7 @@ use lib.IntN.{ℤ, pos}
 use lib.ListN.{length, getD}
 use Rattle.graph.specs.declared.Fault.the-variants.{LentLength, Price, OddSet, Uncovered}
 use Rattle.graph.specs.Limits.{mostSets, vertexWords, edgeWords}
-use Rattle.graph.specs.Refusal.{Outcome, yields, refuses, Test, once, each, passing}
+use Rattle.graph.specs.Refusal.{Outcome, yields, Told, tells, refusedWith, numberOf, Test, once, each, passing}
 use Rattle.graph.specs.Graph.{Graph, vertices, priceInRange}
 use Rattle.graph.specs.Subgraph.{weightOf}
 use Rattle.graph.specs.Tests.{graphLengths, graphTests, boundTest, markTest, degreeTest}
@@ -59,7 +59,7 @@ measureTests g bound x P =
 unfoldable pub measure : Graph → List ℤ → List ℕ → Prices → Outcome Measures
 measure g bound x P = passing (measureTests g bound x P) (yields (measures g bound x P))
 
--- What its answer says.
-abbrev pub measureSays : MeasureAnswer → Outcome Measures
-measureSays (MeasureAnswer.Measured m) = yields m
-measureSays (MeasureAnswer.Refused r) = refuses (r .fault) (r .place)
+-- What its answer says: the seven numbers, or a refusal's number and place.
+abbrev pub measureSays : MeasureAnswer → Told Measures
+measureSays (MeasureAnswer.Measured m) = tells m
+measureSays (MeasureAnswer.Refused r) = refusedWith (numberOf (r .fault)) (r .place)

@@ -10,7 +10,7 @@ use lib.Signed.{_≤ℤ_}
 use Rattle.graph.specs.Limits.{workspaceNumbers, greatestSolverPrice}
 use Rattle.graph.specs.declared.Fault.{Fault}
 use Rattle.graph.specs.declared.Fault.the-variants.{LentLength}
-use Rattle.graph.specs.Refusal.{Outcome, yields, refuses, once, passing}
+use Rattle.graph.specs.Refusal.{Outcome, yields, refuses, Told, tells, refusedWith, numberOf, Test, once, passing}
 use Rattle.graph.specs.Graph.{Graph, vertices, weightAt}
 use Rattle.graph.specs.Subgraph.{Optimal}
 use Rattle.graph.specs.Tests.{graphLengths, graphTests, boundTest, kindTest}
@@ -35,14 +35,18 @@ solveLengths g bound lent =
     graphLengths g && eqb (length bound) (vertices g) && eqb (lent .chosen) (g .edges)
     && eqb (lent .vertexPrices) (vertices g) && eqb (lent .edgePrices) (g .edges) && eqb (lent .workspace) workspaceNumbers
 
+-- The solver's tests, in their order.
+abbrev pub solverTests : Graph → List ℤ → Lent → List Test
+solverTests g bound lent = once LentLength (solveLengths g bound lent) ∷ (graphTests g ++ (boundTest g bound ∷ kindTest g ∷ []))
+
 -- When the solver refuses. It accepts a graph with its bounds where none of these tests refuses.
 unfoldable pub solve : Graph → List ℤ → Lent → Outcome (Unit {0})
-solve g bound lent =
-    passing (once LentLength (solveLengths g bound lent) ∷ (graphTests g ++ (boundTest g bound ∷ kindTest g ∷ []))) (yields tt)
+solve g bound lent = passing (solverTests g bound lent) (yields tt)
 
-abbrev pub solveSays : SolveAnswer → Outcome (Unit {0})
-solveSays SolveAnswer.Solved = yields tt
-solveSays (SolveAnswer.Refused r) = refuses (r .fault) (r .place)
+-- What its answer says: that the graph is solved, or a refusal's number and place.
+abbrev pub solveSays : SolveAnswer → Told (Unit {0})
+solveSays SolveAnswer.Solved = tells tt
+solveSays (SolveAnswer.Refused r) = refusedWith (numberOf (r .fault)) (r .place)
 
 -- The solver's prices: of vertices and edges, and no odd sets.
 abbrev pub withoutSets : List ℤ → List ℤ → Prices

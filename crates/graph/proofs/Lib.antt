@@ -1,3 +1,4 @@
 pub mod Passing
 pub mod Ranges
 pub mod Passed
+pub mod Told

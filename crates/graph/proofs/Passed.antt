@@ -1,28 +1,25 @@
 -- What the tests on a graph's numbers show once they have passed, and back: what is shown passes them.
-use Prim.Native.Nat.{ℕ, _≤_, _<_}
-use mathlib.Core.Path.{_≡_, sym, ap, _∙_}
-use mathlib.Core.Bool.{Bool, true, false, not, true≢false}
+use Prim.Native.Nat.{ℕ, _≤_}
+use mathlib.Core.Path.{_≡_}
+use mathlib.Core.Bool.{true}
 use mathlib.Core.List.{List, [], _∷_}
-use mathlib.Core.Option.{none}
 use native.Mathlib.Omega.{arith}
-use native.Mathlib.Decide.{ℕ-discrete, decLt}
-use lib.Dec.{leb, eqb}
+use lib.Dec.{eqb}
 use lib.IntN.{ℤ, pos, negsuc}
 use lib.ListN.{length}
 use lib.Signed.{_≤ℤ_}
 use borrow.Author.Tests.{leb-true, le-leb, eqb-true, eq-eqb, not-true}
 use Rattle.integers.specs.Integer.{Within}
 use Rattle.integers.proofs.Order.{order, between-true, le-between}
-use Rattle.graph.specs.declared.Shape.{Shape}
 use Rattle.graph.specs.Limits.{greatestWeight, greatestBound}
-use Rattle.graph.specs.Refusal.{Outcome, yields, lowest, passing}
-use Rattle.graph.specs.Graph.{Graph, shapeOf, vertices, rowAt, columnAt, weightAt, boundAt, sizesInRange, endsInRange, weightInRange}
-use Rattle.graph.specs.Graph.{boundInRange, joins, joined}
+use Rattle.graph.specs.Refusal.{Outcome, yields, passing}
+use Rattle.graph.specs.Graph.{Graph, vertices, rowAt, columnAt, boundAt, weightInRange}
+use Rattle.graph.specs.Graph.{joined}
 use Rattle.graph.specs.Subgraph.{markAt}
 use Rattle.graph.specs.Tests.{graphLengths, graphTests, boundTest, markTest}
-use Rattle.graph.specs.Passed.{SizesHold, EndsHold, Sound, Passed, Bounded, MarksHold}
+use Rattle.graph.specs.Passed.{Passed, Bounded, MarksHold}
 use Rattle.graph.proofs.Ranges.{held, _also_, sizes-hold, ends-hold}
-use Rattle.graph.proofs.Passing.{lowest-none, some-none, Passes, passes}
+use Rattle.graph.proofs.Passing.{Passes, passes}
 
 -- ---- the graph
 

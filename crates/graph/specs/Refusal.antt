@@ -50,6 +50,15 @@ pub data Outcome (A : Type 0) : Type 0 where
   yields : A → Outcome A
   refuses : Fault → ℕ → Outcome A
 
+-- What an answer tells of it: the result, or the refusal's number of the table and its place.
+pub data Told (A : Type 0) : Type 0 where
+  tells : A → Told A
+  refusedWith : ℕ → ℕ → Told A
+
+abbrev pub told : {A : Type 0} → Outcome A → Told A
+told (yields a) = tells a
+told (refuses fault place) = refusedWith (numberOf fault) place
+
 -- A test of a call: the fault it refuses with, over how many items it is tested, which place an item has, and what an accepted item keeps.
 pub record Test : Type 0 where
   pub fault : Fault

@@ -12,7 +12,7 @@ use Rattle.graph.specs.Graph.{Graph, vertices, firstEnd, secondEnd, weig
 abbrev pub markAt : List ℕ → ℕ → ℕ
 markAt x e = getD x e 0
 
--- How often vertex v is an end of edge e: once at most, since an edge's ends are different vertices.
+-- How often vertex v is an end of edge e: once at most where the edge's ends are different vertices, as they are in a graph that passes the tests.
 abbrev pub endsAt : Graph → ℕ → ℕ → ℕ
 endsAt g v e = is (firstEnd g e) v + is (secondEnd g e) v
 

@@ -16,7 +16,7 @@ use Rattle.graph.specs.declared.Shape.{Shape}
 use Rattle.graph.specs.declared.Fault.{Fault}
 use Rattle.graph.specs.declared.Fault.the-variants.{SameEnds}
 use Rattle.graph.specs.declared.Refusal.{Refusal}
-use Rattle.graph.specs.Refusal.{yields, refuses, reported, filled}
+use Rattle.graph.specs.Refusal.{Outcome, yields, refuses, told, reported, filled}
 use Rattle.graph.specs.Graph.{Graph, graphOf, shapeOf, shapeInRange, joined}
 use Rattle.graph.proofs.Ranges.{sizes-hold}
 use Rattle.graph.proofs.Passed.{weight-hold}
@@ -42,7 +42,7 @@ use Rattle.graph_reader.specs.declared.TextEdge.the-variants as TextEdge
 -- A refusal reports itself, whatever the outputs hold.
 pub read-refused : {s : List ℕ} {row column : List ℕ} {weight : List ℤ} (x : Refusal) → refuses (x .fault) (x .place) ≡ readText graphLayout s →
     GraphReading s (GraphAnswer.Refused x) row column weight
-read-refused x e = record { says = ap (reported shapeOf) e; rows = holds-refused (sym e); columns = holds-refused (sym e); weights = holds-refused (sym e) }
+read-refused x e = record { says = ap (λ (o : Outcome Graph). told (reported shapeOf o)) e; rows = holds-refused (sym e); columns = holds-refused (sym e); weights = holds-refused (sym e) }
 
 -- The loop has read i edges of the shape's, into outputs as long as at the start.
 pub record EdgeTurn (t : Shape) (s : List ℕ) (j k m : ℕ) (row column : List ℕ) (weight : List ℤ) (seen : List ℕ) (c : Cursor) (i : ℕ) : Type 0 where
@@ -126,7 +126,7 @@ module _ {t : Shape} {s : List ℕ} {j k m : ℕ} {row column : List ℕ} {weigh
     turn-done is =
         let e : yields graph ≡ readText graphLayout s = later-yields graphLayout (T .walk) right F is in
         record {
-          says = ap (reported shapeOf) e;
+          says = ap (λ (o : Outcome Graph). told (reported shapeOf o)) e;
           rows = holds-yields (sym e) (T .rowHolds);
           columns = holds-yields (sym e) (T .columnHolds);
           weights = holds-yields (sym e) (T .weightHolds);

@@ -1,6 +1,6 @@
 -- What the graph reader answers and leaves, from its tests and from what reading the lines yields.
 use Prim.Native.Nat.{ℕ}
-use mathlib.Core.Path.{_≡_, sym, ap, _∙_, subst}
+use mathlib.Core.Path.{_≡_, refl, sym, ap, _∙_, subst}
 use mathlib.Core.Bool.{Bool, true, _&&_}
 use mathlib.Core.List.{List, [], _∷_}
 use lib.Dec.{eqb}
@@ -10,9 +10,10 @@ use borrow.Author.Tests.{eqb-true}
 use Rattle.graph.specs.declared.Fault.the-variants.{TextLength, Sizes, LentLength}
 use Rattle.graph.specs.declared.Refusal.{Refusal}
 use Rattle.graph.specs.declared.Shape.{Shape}
-use Rattle.graph.specs.Refusal.{yields, refuses, reported, output, Test, once, passing}
+use Rattle.graph.specs.Refusal.{Outcome, yields, refuses, told, reported, output, Test, once, passing}
 use Rattle.graph.specs.Graph.{Graph, shapeOf}
 use Rattle.graph.proofs.Passing.{once-yields}
+use Rattle.graph.proofs.Told.{told-same}
 use Rattle.graph.proofs.Ranges.{both}
 use Rattle.layout.specs.declared.GraphAnswer.{GraphAnswer}
 use Rattle.layout.specs.declared.GraphAnswer.the-variants as GraphAnswer
@@ -31,7 +32,7 @@ use Rattle.graph_reader.specs.OnLine.{Cleared, GraphReading}
 -- What the call answers and leaves, where its outputs have r, c and w numbers.
 abbrev pub GraphAnswered : ℕ → ℕ → ℕ → List ℕ → GraphAnswer → List ℕ → List ℕ → List ℤ → Type 0
 GraphAnswered r c w s a row column weight =
-    (graphSays a ≡ reported shapeOf (readGraph r c w s))
+    (graphSays a ≡ told (reported shapeOf (readGraph r c w s)))
     × ((row ≡ output r 0 (λ (g : Graph). g .row) (readGraph r c w s))
     × ((column ≡ output c 0 (λ (g : Graph). g .column) (readGraph r c w s)) × (weight ≡ output w (pos 0) (λ (g : Graph). g .weight) (readGraph r c w s))))
 
@@ -66,7 +67,7 @@ module _ {r c w : ℕ} {row column : List ℕ} {weight : List ℤ} (C : Cleared 
   refused-leaves : (s : List ℕ) (x : Refusal) → refuses (x .fault) (x .place) ≡ reported shapeOf (readGraph r c w s) →
       GraphAnswered r c w s (GraphAnswer.Refused x) row column weight
   refused-leaves s x e = (
-    e,
+    ap told e,
     (
       C .rows ∙ left-refused r 0 (λ (g : Graph). g .row) shapeOf (readGraph r c w s) (x .fault) (x .place) e,
       (
@@ -109,8 +110,8 @@ module _ (r c w : ℕ) (s : List ℕ) {lent : Bool} (p : lent ≡ (eqb r 1024 &&
     passed = sym (checked-passed (graphTextTests lentRight s) (readText graphLayout s) says-whole is)
 
     module _ {g : GraphAnswer} {row column : List ℕ} {weight : List ℤ} (R : GraphReading s g row column weight) where
-      told : (m : GraphAnswer) → g ≡ m → graphSays m ≡ reported shapeOf (readGraph r c w s)
-      told m it = ap graphSays (sym it) ∙ R .says ∙ ap (reported shapeOf) passed
+      answered : (o : Outcome Shape) (m : GraphAnswer) → graphSays m ≡ told o → g ≡ m → o ≡ reported shapeOf (readGraph r c w s)
+      answered o m says it = told-same o (reported shapeOf (readGraph r c w s)) (sym says ∙ ap graphSays (sym it) ∙ R .says ∙ ap (λ (u : Outcome Graph). told (reported shapeOf u)) passed)
 
       left : {N : Type 0} (z : N) (f : Graph → List N) {out : List N} {n : ℕ} → n ≡ 1024 → Holds 1024 z f (readText graphLayout s) out → {t : Shape} →
           yields t ≡ reported shapeOf (readGraph r c w s) → out ≡ output n z f (readGraph r c w s)
@@ -118,8 +119,8 @@ module _ (r c w : ℕ) (s : List ℕ) {lent : Bool} (p : lent ≡ (eqb r 1024 &&
 
       pub whole-read : {t : Shape} → g ≡ GraphAnswer.Graph t → GraphAnswered r c w s (GraphAnswer.Graph t) row column weight
       whole-read {t} it =
-          let e = told (GraphAnswer.Graph t) it in (
-            e,
+          let e = answered (yields t) (GraphAnswer.Graph t) refl it in (
+            ap told e,
             (
               left 0 (λ h. h .row) (lent-right .0) (R .rows) e,
               (left 0 (λ h. h .column) (lent-right .1) (R .columns) e, left (pos 0) (λ h. h .weight) (lent-right .2) (R .weights) e),
@@ -128,4 +129,4 @@ module _ (r c w : ℕ) (s : List ℕ) {lent : Bool} (p : lent ≡ (eqb r 1024 &&
 
       pub whole-refused : {x : Refusal} {rowₙ columnₙ : List ℕ} {weightₙ : List ℤ} → g ≡ GraphAnswer.Refused x → Cleared r c w rowₙ columnₙ weightₙ →
           GraphAnswered r c w s (GraphAnswer.Refused x) rowₙ columnₙ weightₙ
-      whole-refused {x} it C = refused-leaves C s x (told (GraphAnswer.Refused x) it)
+      whole-refused {x} it C = refused-leaves C s x (answered (refuses (x .fault) (x .place)) (GraphAnswer.Refused x) refl it)

@@ -8,7 +8,7 @@ use lib.ListN.{length, replicate}
 use Rattle.graph.specs.declared.Shape.{Shape}
 use Rattle.graph.specs.declared.Fault.the-variants.{SameEnds}
 use Rattle.graph.specs.Limits.{mostEdges}
-use Rattle.graph.specs.Refusal.{reported}
+use Rattle.graph.specs.Refusal.{told, reported}
 use Rattle.graph.specs.Graph.{Graph, shapeOf, shapeInRange, endsInRange, weightInRange, joined}
 use Rattle.layout.specs.declared.GraphAnswer.{GraphAnswer}
 use Rattle.layout.specs.Lines.{Step, goes, stops, readText}
@@ -50,7 +50,7 @@ EdgeInRange s (TextEdge.Refused f) = Unit {0}
 
 -- The answer r is what reading the text s yields, and the three outputs hold its edges.
 pub record GraphReading (s : List ℕ) (r : GraphAnswer) (row column : List ℕ) (weight : List ℤ) : Type 0 where
-  pub says : graphSays r ≡ reported shapeOf (readText graphLayout s)
+  pub says : graphSays r ≡ told (reported shapeOf (readText graphLayout s))
   pub rows : Holds mostEdges 0 (λ (g : Graph). g .row) (readText graphLayout s) row
   pub columns : Holds mostEdges 0 (λ (g : Graph). g .column) (readText graphLayout s) column
   pub weights : Holds mostEdges (pos 0) (λ (g : Graph). g .weight) (readText graphLayout s) weight

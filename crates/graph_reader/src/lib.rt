@@ -18,7 +18,7 @@ ghost use mathlib.Core.Bool.{true};
 ghost use mathlib.Core.List.{List};
 ghost use lib.IntN.{ℤ, pos};
 ghost use lib.ListN.{length};
-ghost use Rattle.graph.specs.Refusal.{reported, output};
+ghost use Rattle.graph.specs.Refusal.{told, reported, output};
 ghost use Rattle.graph.specs.Limits.{mostEdges};
 ghost use Rattle.graph.specs.Graph.{graphOf, shapeOf, shapeInRange};
 ghost use Rattle.layout.specs.Text.{words, natural, integer, threeWords};
@@ -173,7 +173,7 @@ pub fn read_graph(
     column: &mut [u32],
     weight: &mut [i32],
 ) -> GraphAnswer
-    ensures answer { λ r. ⌜ graphSays r ≡ reported shapeOf (readGraph (length (now (row .entry))) (length (now (column .entry))) (length (now (weight .entry))) (now (text .entry))) ⌝ }
+    ensures answer { λ r. ⌜ graphSays r ≡ told (reported shapeOf (readGraph (length (now (row .entry))) (length (now (column .entry))) (length (now (weight .entry))) (now (text .entry)))) ⌝ }
     ensures rows { λ _. ⌜ now (row .exit) ≡ output (length (now (row .entry))) 0 (λ g. g .row) (readGraph (length (now (row .entry))) (length (now (column .entry))) (length (now (weight .entry))) (now (text .entry))) ⌝ }
     ensures columns { λ _. ⌜ now (column .exit) ≡ output (length (now (column .entry))) 0 (λ g. g .column) (readGraph (length (now (row .entry))) (length (now (column .entry))) (length (now (weight .entry))) (now (text .entry))) ⌝ }
     ensures weights { λ _. ⌜ now (weight .exit) ≡ output (length (now (weight .entry))) (pos 0) (λ g. g .weight) (readGraph (length (now (row .entry))) (length (now (column .entry))) (length (now (weight .entry))) (now (text .entry))) ⌝ }

@@ -1,12 +1,13 @@
--- What an exported call returns, tells and leaves follows from the outcome o that the call below it answers.
+-- What an exported call returns, tells and leaves follows from the outcome o that the call below it tells.
 use Prim.Native.Nat.{ℕ}
 use mathlib.Core.Path.{_≡_, refl, ap, _∙_}
 use mathlib.Core.List.{List}
 use lib.IntN.{ℤ, pos}
 use lib.ListN.{length}
 use Rattle.graph.specs.declared.Shape.{Shape}
-use Rattle.graph.specs.Refusal.{Outcome, yields, refuses, reported, output}
+use Rattle.graph.specs.Refusal.{Outcome, yields, refuses, told, reported, output}
 use Rattle.graph.specs.Graph.{Graph, shapeOf}
+use Rattle.graph.proofs.Told.{told-same}
 use Rattle.dual.specs.declared.Measures.{Measures}
 use Rattle.dual.specs.Solve.{Lent, solve, Left}
 use Rattle.jangoripu.specs.Exports.{numberIn, placeIn, shapeTold, lengthTold, measuresTold, GraphRead, Filled, TextWritten, Measured, GraphSolved}
@@ -21,40 +22,42 @@ place-kept f (yields a) = refl
 place-kept f (refuses fault place) = refl
 
 pub graph-read :
-    (o : Outcome Shape) {W : Outcome Graph} {a b c : ℕ} {row column : List ℕ} {weight : List ℤ} → o ≡ reported shapeOf W
+    (o : Outcome Shape) {W : Outcome Graph} {a b c : ℕ} {row column : List ℕ} {weight : List ℤ} → told o ≡ told (reported shapeOf W)
     → row ≡ output a 0 (λ g. g .row) W → column ≡ output b 0 (λ g. g .column) W → weight ≡ output c (pos 0) (λ g. g .weight) W
     → GraphRead W a b c (numberIn o) (shapeTold o) row column weight
 graph-read o {W} says rows columns weights = record {
-  number = ap numberIn says ∙ number-kept shapeOf W;
-  told = ap shapeTold says;
+  number = ap numberIn (told-same o (reported shapeOf W) says) ∙ number-kept shapeOf W;
+  told = ap shapeTold (told-same o (reported shapeOf W) says);
   rows = rows;
   columns = columns;
   weights = weights;
 }
 
 pub filling-told :
-    {N : Type 0} (o : Outcome (Unit {0})) {W : Outcome (List N)} {n : ℕ} {z : N} {out : List N} → o ≡ reported (λ xs. tt) W
+    {N : Type 0} (o : Outcome (Unit {0})) {W : Outcome (List N)} {n : ℕ} {z : N} {out : List N} → told o ≡ told (reported (λ xs. tt) W)
     → out ≡ output n z (λ xs. xs) W → Filled N W n z (numberIn o) (placeIn o) out
 filling-told o {W} says holds = record {
-  number = ap numberIn says ∙ number-kept (λ xs. tt) W;
-  told = ap placeIn says ∙ place-kept (λ xs. tt) W;
+  number = ap numberIn (told-same o (reported (λ xs. tt) W) says) ∙ number-kept (λ xs. tt) W;
+  told = ap placeIn (told-same o (reported (λ xs. tt) W) says) ∙ place-kept (λ xs. tt) W;
   holds = holds;
 }
 
 pub text-written :
-    (o : Outcome ℕ) {W : Outcome (List ℕ)} {n : ℕ} {out : List ℕ} → o ≡ reported length W → out ≡ output n 0 (λ t. t) W
+    (o : Outcome ℕ) {W : Outcome (List ℕ)} {n : ℕ} {out : List ℕ} → told o ≡ told (reported length W) → out ≡ output n 0 (λ t. t) W
     → TextWritten W n (numberIn o) (lengthTold o) out
 text-written o {W} says holds = record {
-  number = ap numberIn says ∙ number-kept length W;
-  told = ap lengthTold says;
+  number = ap numberIn (told-same o (reported length W) says) ∙ number-kept length W;
+  told = ap lengthTold (told-same o (reported length W) says);
   holds = holds;
 }
 
 pub graph-solved :
     (o : Outcome (Unit {0})) {g : Graph} {bound : List ℤ} {lent : Lent} {x : List ℕ} {vertex edge workspace : List ℤ}
-    → o ≡ solve g bound lent → Left g bound lent x vertex edge workspace
+    → told o ≡ told (solve g bound lent) → Left g bound lent x vertex edge workspace
     → GraphSolved g bound lent (numberIn o) (placeIn o) x vertex edge workspace
-graph-solved o says leaves = record { number = ap numberIn says; told = ap placeIn says; leaves = leaves }
+graph-solved o {g} {bound} {lent} says leaves =
+    let e = told-same o (solve g bound lent) says in record { number = ap numberIn e; told = ap placeIn e; leaves = leaves }
 
-pub measuring-told : (o : Outcome Measures) {W : Outcome Measures} → o ≡ W → Measured W (numberIn o) (placeIn o) (measuresTold o)
-measuring-told o says = record { number = ap numberIn says; told = ap placeIn says; holds = ap measuresTold says }
+pub measuring-told : (o : Outcome Measures) {W : Outcome Measures} → told o ≡ told W → Measured W (numberIn o) (placeIn o) (measuresTold o)
+measuring-told o {W} says =
+    let e = told-same o W says in record { number = ap numberIn e; told = ap placeIn e; holds = ap measuresTold e }

@@ -11,7 +11,7 @@ use Rattle.graph.specs.declared.Kind.the-variants.{Bipartite, General}
 use Rattle.graph.specs.declared.Fault.the-variants.{TextLength, Header, SizeLine, Sizes, LaterLine, Ends, Weight, SameEnds, LentLength}
 use Rattle.graph.specs.declared.Shape.{Shape}
 use Rattle.graph.specs.Limits.{mostEdges}
-use Rattle.graph.specs.Refusal.{Outcome, once, passing}
+use Rattle.graph.specs.Refusal.{Outcome, Test, once, passing}
 use Rattle.graph.specs.Graph.{Graph, graphOf, shapeOf, shapeInRange, endsInRange, weightInRange, joined}
 use Rattle.layout.specs.Text.{bytes, words, natural, integer, threeWords, header, textFits}
 use Rattle.layout.specs.Lines.{Step, goes, stops, Layout, readText}
@@ -57,8 +57,10 @@ graphLayout = record {
   result = λ g. g;
 }
 
--- What the graph reader yields of a text, where its three outputs have r, c and w numbers.
+-- The tests before the lines are read, where the three outputs have r, c and w numbers: their lengths (9), and the text's (1).
+abbrev pub graphReaderTests : ℕ → ℕ → ℕ → List ℕ → List Test
+graphReaderTests r c w text = once LentLength (eqb r mostEdges && eqb c mostEdges && eqb w mostEdges) ∷ once TextLength (textFits text) ∷ []
+
+-- What the graph reader yields of a text.
 unfoldable pub readGraph : ℕ → ℕ → ℕ → List ℕ → Outcome Graph
-readGraph r c w text =
-    passing (once LentLength (eqb r mostEdges && eqb c mostEdges && eqb w mostEdges) ∷ once TextLength (textFits text) ∷ [])
-    (readText graphLayout text)
+readGraph r c w text = passing (graphReaderTests r c w text) (readText graphLayout text)

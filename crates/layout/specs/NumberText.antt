@@ -9,7 +9,7 @@ use lib.ListN.{length}
 use Rattle.graph.specs.declared.Fault.{Fault}
 use Rattle.graph.specs.declared.Fault.the-variants.{TextLength, Header, SizeLine, Sizes, LaterLine, LentLength, Bound, Price}
 use Rattle.graph.specs.Limits.{mostNumbers}
-use Rattle.graph.specs.Refusal.{Outcome, once, passing}
+use Rattle.graph.specs.Refusal.{Outcome, Test, once, passing}
 use Rattle.graph.specs.Graph.{upTo, boundInRange, priceInRange}
 use Rattle.layout.specs.declared.Numbers.{Numbers}
 use Rattle.layout.specs.declared.Numbers.the-variants.{Bounds, Prices}
@@ -48,8 +48,10 @@ numberLayout what count = record {
   result = λ zs. zs;
 }
 
--- What the number reader yields of a text, where count numbers of a sort are asked for and its output has n.
+-- The tests before the lines are read, where count numbers are asked for and the output has n: its length (9), the count (4), and the text's length (1).
+abbrev pub numberReaderTests : ℕ → ℕ → List ℕ → List Test
+numberReaderTests count n text = once LentLength (eqb n count) ∷ once Sizes (upTo mostNumbers count) ∷ once TextLength (textFits text) ∷ []
+
+-- What the number reader yields of a text, where count numbers of a sort are asked for.
 unfoldable pub readNumbers : Numbers → ℕ → ℕ → List ℕ → Outcome (List ℤ)
-readNumbers what count n text =
-    passing (once LentLength (eqb n count) ∷ once Sizes (upTo mostNumbers count) ∷ once TextLength (textFits text) ∷ [])
-    (readText (numberLayout what count) text)
+readNumbers what count n text = passing (numberReaderTests count n text) (readText (numberLayout what count) text)

@@ -10,7 +10,7 @@ use Rattle.graph.specs.declared.Kind.{Kind}
 use Rattle.graph.specs.declared.Kind.the-variants.{Bipartite, General}
 use Rattle.graph.specs.declared.Fault.the-variants.{TextLength, Header, SizeLine, Sizes, LaterLine, Ends, SameEnds, LentLength, Disagreement}
 use Rattle.graph.specs.Limits.{subgraphBytes}
-use Rattle.graph.specs.Refusal.{Outcome, yields, once, lowest, passing}
+use Rattle.graph.specs.Refusal.{Outcome, yields, Test, once, lowest, passing}
 use Rattle.graph.specs.Graph.{Graph, rowAt, columnAt, sizesInRange, endsInRange, joins}
 use Rattle.graph.specs.Subgraph.{markAt}
 use Rattle.graph.specs.Tests.{graphLengths, graphTests, markTest}
@@ -76,11 +76,13 @@ subgraphLayout g = record {
   result = λ b. b .marks;
 }
 
--- What the subgraph reader yields of a text for a graph, where its output has n marks.
+-- The tests before the lines are read, where the output has n marks: the lengths (9), the graph's numbers (4, 6, 7, 8), and the text's length (1).
+abbrev pub subgraphReaderTests : Graph → ℕ → List ℕ → List Test
+subgraphReaderTests g n text = (once LentLength (graphLengths g && eqb n (g .edges)) ∷ graphTests g) ++ (once TextLength (textFits text) ∷ [])
+
+-- What the subgraph reader yields of a text for a graph.
 unfoldable pub readSubgraph : Graph → ℕ → List ℕ → Outcome (List ℕ)
-readSubgraph g n text =
-    passing (once LentLength (graphLengths g && eqb n (g .edges)) ∷ graphTests g)
-    (passing (once TextLength (textFits text) ∷ []) (readText (subgraphLayout g) text))
+readSubgraph g n text = passing (subgraphReaderTests g n text) (readText (subgraphLayout g) text)
 
 -- The lines of the chosen edges among the first n, in the graph's order.
 unfoldable pub chosenLines : Graph → List ℕ → ℕ → List (List ℕ)
@@ -100,8 +102,10 @@ subgraphText g x =
     ∷ spaced (decimal (g .rows) ∷ decimal (g .columns) ∷ decimal (sum (g .edges) (markAt x)) ∷ [])
     ∷ chosenLines g x (g .edges))
 
--- What the subgraph writer yields, where its output has n bytes.
+-- The tests of the writer, where its output has n bytes: the lengths (9), the graph's numbers (4, 6, 7, 8), and the marks (11).
+abbrev pub writerTests : Graph → List ℕ → ℕ → List Test
+writerTests g x n = (once LentLength (graphLengths g && eqb (length x) (g .edges) && eqb n subgraphBytes) ∷ graphTests g) ++ (markTest g x ∷ [])
+
+-- What the subgraph writer yields.
 unfoldable pub writeSubgraph : Graph → List ℕ → ℕ → Outcome (List ℕ)
-writeSubgraph g x n =
-    passing (once LentLength (graphLengths g && eqb (length x) (g .edges) && eqb n subgraphBytes) ∷ graphTests g)
-    (passing (markTest g x ∷ []) (yields (subgraphText g x)))
+writeSubgraph g x n = passing (writerTests g x n) (yields (subgraphText g x))

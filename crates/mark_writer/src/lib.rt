@@ -12,17 +12,18 @@ use report::Source;
 ghost use mathlib.Core.Path.{_≡_};
 ghost use Prim.Native.Nat.{_≤_};
 ghost use lib.ListN.{length};
+ghost use Rattle.graph.specs.Refusal.{Outcome, told};
 ghost use Rattle.graph.specs.Graph.{graphOf, verticesIn};
 ghost use Rattle.graph.specs.Passed.{SizesHold};
+ghost use Rattle.dual.specs.declared.Measures.{Measures};
 ghost use Rattle.dual.specs.Measure.{measureSays};
 ghost use Rattle.report.specs.declared.Source.the-variants.{Input};
-ghost use Rattle.report.specs.Report.{measuredLine, Composed, lineBytes};
+ghost use Rattle.report.specs.Report.{measuredLine, lineRoom, Composed};
 ghost use Rattle.report.specs.Programs.{cameFrom, written, markPrices, markPlan, markProblem, markOutput};
 
 // Writes the line of what the measuring answers.
 fn put_measured(answer: MeasureAnswer, out: &mut [u8]) -> usize
-    requires { ⌜ lineBytes ≤ length (now out) ⌝ }
-    ensures { λ r. ⌜ Composed (written measuredLine (cameFrom Input (measureSays answer))) (now (out .exit)) r ⌝ }
+    ensures { λ r. ⌜ ((o : Outcome Measures) → measureSays answer ≡ told o → Composed lineRoom (written measuredLine (cameFrom Input o)) (now (out .entry)) (now (out .exit)) r) ⌝ }
 {
     match answer {
         MeasureAnswer::Measured(m) => report::put_measures(out, m),
@@ -42,8 +43,7 @@ fn mark_prices(
     out: &mut [u8],
 ) -> usize
     requires { ⌜ verticesIn s ≤ length (now price) ⌝ }
-    requires { ⌜ lineBytes ≤ length (now out) ⌝ }
-    ensures { λ r. ⌜ Composed (written measuredLine (markPrices (graphOf s (now (row .entry)) (now (column .entry)) (now (weight .entry))) (now (bound .entry)) (now (chosen .entry)) (now (price .entry)))) (now (out .exit)) r ⌝ }
+    ensures { λ r. ⌜ Composed lineRoom (written measuredLine (markPrices (graphOf s (now (row .entry)) (now (column .entry)) (now (weight .entry))) (now (bound .entry)) (now (chosen .entry)) (now (price .entry)))) (now (out .entry)) (now (out .exit)) r ⌝ }
 {
     let n = checks::vertex_count(s) as usize;
     let vertex_price = &price[..n];
@@ -79,8 +79,7 @@ fn mark_plan(
     out: &mut [u8],
 ) -> usize
     requires { ⌜ SizesHold (s .kind) (s .rows) (s .columns) (s .edges) ⌝ }
-    requires { ⌜ lineBytes ≤ length (now out) ⌝ }
-    ensures { λ r. ⌜ Composed (written measuredLine (markPlan (graphOf s (now (row .entry)) (now (column .entry)) (now (weight .entry))) (now (bound .entry)) (now (chosen .entry)) (now (prices .entry)))) (now (out .exit)) r ⌝ }
+    ensures { λ r. ⌜ Composed lineRoom (written measuredLine (markPlan (graphOf s (now (row .entry)) (now (column .entry)) (now (weight .entry))) (now (bound .entry)) (now (chosen .entry)) (now (prices .entry)))) (now (out .entry)) (now (out .exit)) r ⌝ }
 {
     let count = checks::vertex_count(s) + s.edges as u64;
     let size = count as usize;
@@ -112,8 +111,7 @@ fn mark_problem(
     out: &mut [u8],
 ) -> usize
     requires { ⌜ SizesHold (s .kind) (s .rows) (s .columns) (s .edges) ⌝ }
-    requires { ⌜ lineBytes ≤ length (now out) ⌝ }
-    ensures { λ r. ⌜ Composed (written measuredLine (markProblem (graphOf s (now (row .entry)) (now (column .entry)) (now (weight .entry))) (now (bound .entry)) (now (plan .entry)) (now (prices .entry)))) (now (out .exit)) r ⌝ }
+    ensures { λ r. ⌜ Composed lineRoom (written measuredLine (markProblem (graphOf s (now (row .entry)) (now (column .entry)) (now (weight .entry))) (now (bound .entry)) (now (plan .entry)) (now (prices .entry)))) (now (out .entry)) (now (out .exit)) r ⌝ }
 {
     let m = s.edges as usize;
     let mut chosen = [0u8; MOST_EDGES];
@@ -123,10 +121,11 @@ fn mark_problem(
     }
 }
 
-// Writes what `mark` writes of the four texts at the start of `out`. The result is its length.
+// Writes what `mark` writes of the four texts to `out`, 0 after its end. The result is its length; or 0, and `out` is cleared, where `out` is shorter
+// than 256 bytes.
 pub fn mark(sheet: &[u8], limits: &[u8], plan: &[u8], prices: &[u8], out: &mut [u8]) -> usize
-    requires { ⌜ lineBytes ≤ length (now out) ⌝ }
-    ensures { λ r. ⌜ Composed (markOutput (now (sheet .entry)) (now (limits .entry)) (now (plan .entry)) (now (prices .entry))) (now (out .exit)) r ⌝ }
+    ensures inside { λ r. ⌜ r ≤ length (now (out .exit)) ⌝ }
+    ensures { λ r. ⌜ Composed lineRoom (markOutput (now (sheet .entry)) (now (limits .entry)) (now (plan .entry)) (now (prices .entry))) (now (out .entry)) (now (out .exit)) r ⌝ }
 {
     let mut row = [0u32; MOST_EDGES];
     let mut column = [0u32; MOST_EDGES];

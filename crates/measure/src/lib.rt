@@ -24,7 +24,7 @@ ghost use lib.Signed.{leZ};
 ghost use Rattle.integers.specs.Integer.{Within};
 ghost use Rattle.graph.specs.declared.Fault.the-variants.{Degree};
 ghost use Rattle.graph.specs.Limits.{mostVertices, mostEdges, vertexWords, edgeWords};
-ghost use Rattle.graph.specs.Refusal.{yields, each, passing};
+ghost use Rattle.graph.specs.Refusal.{yields, told, each, passing};
 ghost use Rattle.graph.specs.Graph.{graphOf, verticesIn, boundAt};
 ghost use Rattle.graph.specs.Passed.{Bounded, MarksHold};
 ghost use Rattle.dual.specs.Prices.{pricesOf};
@@ -186,7 +186,7 @@ pub fn measure(
     set_vertices: &[u64],
     set_edges: &[u64],
 ) -> MeasureAnswer
-    ensures { λ r. ⌜ measureSays r ≡ dual-measure.measure (graphOf s (now (row .entry)) (now (column .entry)) (now (weight .entry))) (now (bound .entry)) (now (chosen .entry)) (pricesOf (now («vertex_price» .entry)) (now («edge_price» .entry)) sets (now («set_price» .entry)) (now («set_vertices» .entry)) (now («set_edges» .entry))) ⌝ }
+    ensures { λ r. ⌜ measureSays r ≡ told (dual-measure.measure (graphOf s (now (row .entry)) (now (column .entry)) (now (weight .entry))) (now (bound .entry)) (now (chosen .entry)) (pricesOf (now («vertex_price» .entry)) (now («edge_price» .entry)) sets (now («set_price» .entry)) (now («set_vertices» .entry)) (now («set_edges» .entry)))) ⌝ }
 {
     let others = others_match(
         s,

@@ -16,7 +16,7 @@ use Rattle.integers.specs.Integer.{Within}
 use Rattle.integers.proofs.Order.{order, between-true, fits-within}
 use Rattle.graph.specs.declared.Refusal.{Refusal}
 use Rattle.graph.specs.declared.Fault.{Fault}
-use Rattle.graph.specs.Refusal.{yields, refuses, reported, filled}
+use Rattle.graph.specs.Refusal.{Outcome, yields, refuses, told, reported, filled}
 use Rattle.layout.specs.declared.Numbers.{Numbers}
 use Rattle.layout.specs.declared.Numbers.the-variants.{Bounds, Prices}
 use Rattle.layout.specs.declared.NumbersAnswer.{NumbersAnswer}
@@ -47,7 +47,7 @@ range-fits Prices z e = let w = between-true (pos 0) (pos 2000000) z e in fits-w
 -- A refusal reports itself, whatever the output holds.
 pub read-refused : {what : Numbers} {n : ℕ} {s : List ℕ} {out : List ℤ} (x : Refusal) →
     refuses (x .fault) (x .place) ≡ readText (numberLayout what n) s → NumbersReading what n s (NumbersAnswer.Refused x) out
-read-refused x e = record { says = ap (reported (λ zs. tt {0})) e; holds = holds-refused (sym e) }
+read-refused x e = record { says = ap (λ (o : Outcome (List ℤ)). told (reported (λ zs. tt {0}) o)) e; holds = holds-refused (sym e) }
 
 -- The loop has read i numbers of n, into an output as long as at the start.
 pub record NumberTurn (what : Numbers) (n : ℕ) (s : List ℕ) (j : ℕ) (out : List ℤ) (c : Cursor) (i : ℕ) : Type 0 where
@@ -74,7 +74,7 @@ module _ {what : Numbers} {n : ℕ} {s : List ℕ} {j : ℕ} {out : List ℤ} {c
     pub turn-done : r ≡ Later.Done → NumbersReading what n s NumbersAnswer.Read out
     turn-done is =
         let e : yields (T .read) ≡ readText (numberLayout what n) s = later-yields (numberLayout what n) (T .walk) right F is in
-        record { says = ap (reported (λ zs. tt {0})) e; holds = holds-yields (sym e) (T .holds) }
+        record { says = ap (λ (o : Outcome (List ℤ)). told (reported (λ zs. tt {0}) o)) e; holds = holds-yields (sym e) (T .holds) }
 
     pub turn-refused : {x : Refusal} → r ≡ Later.Refused x → NumbersReading what n s (NumbersAnswer.Refused x) out
     turn-refused {x} is = read-refused x (later-refused (numberLayout what n) (T .walk) right F is)

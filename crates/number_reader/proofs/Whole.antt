@@ -1,6 +1,6 @@
 -- What the number reader answers and leaves, from its tests and from what reading the lines yields.
 use Prim.Native.Nat.{ℕ}
-use mathlib.Core.Path.{_≡_, sym, ap, ap₂, _∙_, subst}
+use mathlib.Core.Path.{_≡_, refl, sym, ap, ap₂, _∙_, subst}
 use mathlib.Core.Bool.{Bool}
 use mathlib.Core.List.{List, [], _∷_}
 use lib.Dec.{eqb}
@@ -10,9 +10,10 @@ use borrow.Author.Tests.{eqb-true}
 use Rattle.graph.specs.declared.Fault.the-variants.{TextLength, Sizes, LentLength}
 use Rattle.graph.specs.declared.Refusal.{Refusal}
 use Rattle.graph.specs.Limits.{mostNumbers}
-use Rattle.graph.specs.Refusal.{yields, refuses, reported, output, Test, once, passing}
+use Rattle.graph.specs.Refusal.{Outcome, yields, refuses, told, reported, output, Test, once, passing}
 use Rattle.graph.specs.Graph.{upTo}
 use Rattle.graph.proofs.Passing.{once-yields}
+use Rattle.graph.proofs.Told.{told-same}
 use Rattle.layout.specs.declared.Numbers.{Numbers}
 use Rattle.layout.specs.declared.NumbersAnswer.{NumbersAnswer}
 use Rattle.layout.specs.declared.NumbersAnswer.the-variants as NumbersAnswer
@@ -31,7 +32,7 @@ use Rattle.number_reader.specs.OnLine.{NumbersReading}
 -- What the call answers and leaves, where its output has n numbers.
 abbrev pub NumbersAnswered : Numbers → ℕ → ℕ → List ℕ → NumbersAnswer → List ℤ → Type 0
 NumbersAnswered what count n s r out =
-    (numbersSay r ≡ reported (λ zs. tt {0}) (readNumbers what count n s)) × (out ≡ output n (pos 0) (λ zs. zs) (readNumbers what count n s))
+    (numbersSay r ≡ told (reported (λ zs. tt {0}) (readNumbers what count n s))) × (out ≡ output n (pos 0) (λ zs. zs) (readNumbers what count n s))
 
 abbrev numberTests : Bool → Bool → List ℕ → List Test
 numberTests lent sizes s = once LentLength lent ∷ once Sizes sizes ∷ once TextLength (textFits s) ∷ []
@@ -40,7 +41,7 @@ numberTests lent sizes s = once LentLength lent ∷ once Sizes sizes ∷ once Te
 refused-leaves : (what : Numbers) (count n : ℕ) (s : List ℕ) (x : Refusal) {out : List ℤ} →
     refuses (x .fault) (x .place) ≡ reported (λ zs. tt {0}) (readNumbers what count n s) → out ≡ replicate n (pos 0)
     → NumbersAnswered what count n s (NumbersAnswer.Refused x) out
-refused-leaves what count n s x e z = (e, z ∙ left-refused n (pos 0) (λ zs. zs) (λ zs. tt {0}) (readNumbers what count n s) (x .fault) (x .place) e)
+refused-leaves what count n s x e z = (ap told e, z ∙ left-refused n (pos 0) (λ zs. zs) (λ zs. tt {0}) (readNumbers what count n s) (x .fault) (x .place) e)
 
 module _ (what : Numbers) (count n : ℕ) (s : List ℕ) {lent sizes : Bool} (p : lent ≡ eqb n count) (q : sizes ≡ upTo mostNumbers count) (r : Check)
     (says : checkSays r ≡ passing (numberTests lent sizes s) (yields tt)) where
@@ -65,15 +66,17 @@ module _ (what : Numbers) (count n : ℕ) (s : List ℕ) {lent sizes : Bool} (p 
     passed = sym (checked-passed (numberTests (eqb n count) (upTo mostNumbers count) s) (readText (numberLayout what count) s) says-whole is)
 
     module _ {a : NumbersAnswer} {out : List ℤ} (R : NumbersReading what count s a out) where
-      told : (m : NumbersAnswer) → a ≡ m → numbersSay m ≡ reported (λ zs. tt {0}) (readNumbers what count n s)
-      told m it = ap numbersSay (sym it) ∙ R .says ∙ ap (reported (λ zs. tt {0})) passed
+      answered : (o : Outcome (Unit {0})) (m : NumbersAnswer) → numbersSay m ≡ told o → a ≡ m → o ≡ reported (λ zs. tt {0}) (readNumbers what count n s)
+      answered o m says it =
+          told-same o (reported (λ zs. tt {0}) (readNumbers what count n s))
+          (sym says ∙ ap numbersSay (sym it) ∙ R .says ∙ ap (λ (u : Outcome (List ℤ)). told (reported (λ zs. tt {0}) u)) passed)
 
       pub whole-read : a ≡ NumbersAnswer.Read → NumbersAnswered what count n s NumbersAnswer.Read out
       whole-read it =
-          let e = told NumbersAnswer.Read it in
+          let e = answered (yields tt) NumbersAnswer.Read refl it in
           let h = subst (λ w. Holds count (pos 0) (λ zs. zs) w out) passed (R .holds) in
-          (e, left-yields (λ zs. tt {0}) (subst (λ k. Holds k (pos 0) (λ zs. zs) (readNumbers what count n s) out) (sym lent-right) h) e)
+          (ap told e, left-yields (λ zs. tt {0}) (subst (λ k. Holds k (pos 0) (λ zs. zs) (readNumbers what count n s) out) (sym lent-right) h) e)
 
       pub whole-refused : {x : Refusal} {new : List ℤ} → a ≡ NumbersAnswer.Refused x → new ≡ replicate n (pos 0) →
           NumbersAnswered what count n s (NumbersAnswer.Refused x) new
-      whole-refused {x} it z = refused-leaves what count n s x (told (NumbersAnswer.Refused x) it) z
+      whole-refused {x} it z = refused-leaves what count n s x (answered (refuses (x .fault) (x .place)) (NumbersAnswer.Refused x) refl it) z

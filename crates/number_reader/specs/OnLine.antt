@@ -4,7 +4,7 @@ use mathlib.Core.Path.{_≡_}
 use mathlib.Core.Bool.{true}
 use mathlib.Core.List.{List, [], _∷_, _++_}
 use lib.IntN.{ℤ, pos}
-use Rattle.graph.specs.Refusal.{reported}
+use Rattle.graph.specs.Refusal.{told, reported}
 use Rattle.layout.specs.declared.Numbers.{Numbers}
 use Rattle.layout.specs.declared.NumbersAnswer.{NumbersAnswer}
 use Rattle.layout.specs.Lines.{Step, goes, stops, readText}
@@ -32,5 +32,5 @@ ValueInRange what (NumberLine.Refused f) = Unit {0}
 
 -- The answer r is what reading the text s yields, and the output holds it.
 pub record NumbersReading (what : Numbers) (count : ℕ) (s : List ℕ) (r : NumbersAnswer) (out : List ℤ) : Type 0 where
-  pub says : numbersSay r ≡ reported (λ zs. tt) (readText (numberLayout what count) s)
+  pub says : numbersSay r ≡ told (reported (λ zs. tt) (readText (numberLayout what count) s))
   pub holds : Holds count (pos 0) (λ zs. zs) (readText (numberLayout what count) s) out

@@ -13,7 +13,7 @@ ghost use mathlib.Core.Path.{_≡_};
 ghost use mathlib.Core.List.{List, []};
 ghost use lib.IntN.{ℤ, pos};
 ghost use lib.ListN.{length, replicate};
-ghost use Rattle.graph.specs.Refusal.{reported, output};
+ghost use Rattle.graph.specs.Refusal.{told, reported, output};
 ghost use Rattle.layout.specs.Text.{words, natural, integer, oneWord, twoWords};
 ghost use Rattle.layout.specs.Lines.{reading};
 ghost use Rattle.layout.specs.NumberText.{inRange, outside, numberSizes, numberValue, numberLayout, readNumbers};
@@ -143,7 +143,7 @@ fn read_lines(text: &[u8], what: Numbers, count: u32, out: &mut [i32]) -> Number
 
 // Reads a text of `count` numbers of a sort into `out`. After a refusal `out` is all 0.
 pub fn read_numbers(text: &[u8], what: Numbers, count: u32, out: &mut [i32]) -> NumbersAnswer
-    ensures answer { λ r. ⌜ numbersSay r ≡ reported (λ zs. tt) (readNumbers what count (length (now (out .entry))) (now (text .entry))) ⌝ }
+    ensures answer { λ r. ⌜ numbersSay r ≡ told (reported (λ zs. tt) (readNumbers what count (length (now (out .entry))) (now (text .entry)))) ⌝ }
     ensures numbers { λ _. ⌜ now (out .exit) ≡ output (length (now (out .entry))) (pos 0) (λ zs. zs) (readNumbers what count (length (now (out .entry))) (now (text .entry))) ⌝ }
 {
     lent::clear_integers(out);

@@ -1,16 +1,21 @@
--- What the readers of a graph and of bounds answer is what reading a problem yields.
-use Prim.Native.Nat.{ℕ, _-_, _≤_}
-use mathlib.Core.Path.{_≡_, sym, ap, ap₂, _∙_, subst}
-use mathlib.Core.List.{List, _++_}
+-- What the readers of a graph and of bounds answer and leave is what reading a problem yields and leaves.
+use Prim.Native.Nat.{ℕ, _+_, _-_, _≤_}
+use mathlib.Core.Path.{_≡_, refl, sym, ap, _∙_}
+use mathlib.Core.Bool.{Bool}
+use mathlib.Core.Logic.{_≢_}
+use mathlib.Core.List.{List, [], _∷_, _++_}
 use native.Mathlib.Omega.{arith}
+use lib.Dec.{eqb}
 use lib.IntN.{ℤ, pos}
-use lib.ListN.{length, take, replicate}
-use lib.Seq.{take-at, length-take-le}
+use lib.ListN.{length, take, drop, replicate, length-replicate, replicate-append-replicate}
+use lib.Seq.{length-take-le}
+use borrow.Author.Tests.{eq-eqb, ne-eqb}
+use Rattle.graph.specs.declared.Fault.{Fault}
+use Rattle.graph.specs.declared.Fault.the-variants.{LentLength}
 use Rattle.graph.specs.declared.Refusal.{Refusal}
 use Rattle.graph.specs.declared.Shape.{Shape}
-use Rattle.graph.specs.Refusal.{Outcome, yields, refuses, reported, filled, output}
-use Rattle.graph.specs.Graph.{Graph, graphOf, shapeOf, verticesIn}
-use Rattle.graph.specs.Passed.{SizesHold}
+use Rattle.graph.specs.Refusal.{Outcome, yields, refuses, Told, refusedWith, told, once, passing, reported, filled, output}
+use Rattle.graph.specs.Graph.{Graph, shapeOf, vertices, verticesIn}
 use Rattle.graph.proofs.Ranges.{sizes-hold}
 use Rattle.layout.specs.declared.Numbers.the-variants.{Bounds}
 use Rattle.layout.specs.declared.GraphAnswer.{GraphAnswer}
@@ -21,90 +26,163 @@ use Rattle.layout.specs.GraphText.{readGraph}
 use Rattle.layout.specs.NumberText.{readNumbers}
 use Rattle.layout.specs.Answers.{graphSays, numbersSay}
 use Rattle.lent.proofs.Filling.{filled-all}
-use Rattle.lent.proofs.Lengths.{lengths-hold}
+use Rattle.writer.proofs.Over.{drop-zeros}
+use Rattle.report.specs.declared.Source.{Source}
 use Rattle.report.specs.declared.Source.the-variants as Source
-use Rattle.report.specs.Programs.{Run, has, ends, cameFrom, andThen, Problem, readBounds, readProblem}
-use Rattle.problem_reader.specs.Problem.{storedGraph}
+use Rattle.report.specs.Programs.{Run, has, ends, runReported, runOutput, cameFrom, andThen, Problem, readBounds, readProblem}
+use Rattle.problem_reader.specs.Problem.{problemShape, ProblemLeft}
 use Rattle.problem_reader.proofs.Kept.{graph-whole, numbers-filled, graph-yielded, graph-refused, numbers-yielded, numbers-refused}
 
--- Room for the bounds: n numbers, one for each vertex, of 128.
-module _ {s : Shape} (sizes : SizesHold (s .kind) (s .rows) (s .columns) (s .edges)) (n : ℕ) (bound : List ℤ) (long : length bound ≡ 128)
-    (all : n ≡ verticesIn s) where
-  room : n ≤ length bound
-  room = omega (arith, sizes .order)
+-- ---- the bounds of n vertices
 
-  pub bounds-long : length (take n bound) ≡ verticesIn s
-  bounds-long = length-take-le n bound room ∙ all
+-- The output has b numbers, and was cleared.
+module _ (b n : ℕ) (limits : List ℕ) {cleared : List ℤ} (zeros : cleared ≡ replicate b (pos 0)) where
+  long : length cleared ≡ b
+  long = ap length zeros ∙ length-replicate b (pos 0)
 
--- The bounds of a graph, where the number reader is asked for as many as there are vertices.
-module _ (g : Graph) (limits : List ℕ) (count n : ℕ) (asked : count ≡ verticesIn (shapeOf g)) (lent : n ≡ verticesIn (shapeOf g)) where
-  abbrev readOn : Outcome (List ℤ) → Run Problem
-  readOn o = andThen (cameFrom Source.Limits o) (λ bound. has (record { graph = g; bound = bound }))
+  bounds-tested : {right : Bool} → eqb b 128 ≡ right → readBounds b n limits ≡ passing (once LentLength right ∷ []) (readNumbers Bounds n n limits)
+  bounds-tested e = ap (λ (right : Bool). passing (once LentLength right ∷ []) (readNumbers Bounds n n limits)) e
 
-  bounds-as : (o : Outcome (List ℤ)) → readNumbers Bounds count n limits ≡ o → readBounds g limits ≡ readOn o
-  bounds-as o e = ap readOn (ap₂ (λ i j. readNumbers Bounds i j limits) (sym asked) (sym lent) ∙ e)
+  -- Its length is wrong.
+  module _ (wrong : length cleared ≢ 128) where
+    lent-wrong : readBounds b n limits ≡ refuses LentLength 0
+    lent-wrong = bounds-tested (ne-eqb b 128 (λ e. wrong (long ∙ e)))
 
-  module _ {a : NumbersAnswer} (says : numbersSay a ≡ reported (λ zs. tt {0}) (readNumbers Bounds count n limits)) where
-    pub bounds-refused : {f : Refusal} → a ≡ NumbersAnswer.Refused f → ends Source.Limits (f .fault) (f .place) ≡ readBounds g limits
-    bounds-refused {f} is = sym (bounds-as (refuses (f .fault) (f .place)) (numbers-refused says is))
+    pub wrong-answered : refusedWith 9 0 ≡ told (reported (λ zs. tt {0}) (readBounds b n limits))
+    wrong-answered = sym (ap (λ (o : Outcome (List ℤ)). told (reported (λ zs. tt {0}) o)) lent-wrong)
 
-    -- They stand before the rest of an array.
-    pub bounds-read : {out : List ℤ} → a ≡ NumbersAnswer.Read → out ≡ output n (pos 0) (λ zs. zs) (readNumbers Bounds count n limits)
-        → (rest : List ℤ) → has (record { graph = g; bound = take (verticesIn (shapeOf g)) (out ++ rest) }) ≡ readBounds g limits
-    bounds-read {out} is holds rest =
-        let y = numbers-yielded says is in
-        let m = numbers-filled Bounds count n limits (y .value) (y .yielded) in
-        let full : out ≡ y .value = holds ∙ ap (output n (pos 0) (λ xs. xs)) (y .yielded) ∙ filled-all n (pos 0) (y .value) (m .read ∙ sym (m .lent)) in
-        ap (λ (xs : List ℤ). has (record { graph = g; bound = take (verticesIn (shapeOf g)) (xs ++ rest) })) full
-        ∙ ap (λ (xs : List ℤ). has (record { graph = g; bound = xs })) (take-at (y .value) rest (verticesIn (shapeOf g)) (m .read ∙ asked))
-        ∙ sym (bounds-as (yields (y .value)) (y .yielded))
+    pub wrong-left : cleared ≡ output b (pos 0) (λ zs. zs) (readBounds b n limits)
+    wrong-left = zeros ∙ sym (ap (output b (pos 0) (λ zs. zs)) lent-wrong)
 
--- The first m numbers of an output that is filled with m.
-first-of : {N : Type 0} (n m : ℕ) (z : N) (xs : List N) {out : List N} → out ≡ filled n z xs → length xs ≡ m → take m out ≡ xs
-first-of n m z xs e long = ap (take m) e ∙ take-at xs (replicate (n - length xs) z) m long
+  -- It is right, and the first n numbers are lent.
+  module _ (right : length cleared ≡ 128) (few : n ≤ 128) where
+    pub bounds-long : n ≡ length (take n cleared)
+    bounds-long = sym (length-take-le n cleared (omega arith))
 
--- The graph, where the graph reader's outputs have r, c and w numbers.
-module _ (sheet : List ℕ) (r c w : ℕ) where
-  -- What reading the problem yields after it.
-  problem-as : (limits : List ℕ) (o : Outcome Graph) → r ≡ 1024 → c ≡ 1024 → w ≡ 1024 → readGraph r c w sheet ≡ o
-      → readProblem sheet limits ≡ andThen (cameFrom Source.Sheet o) (λ g. readBounds g limits)
+    numbers-are : readBounds b n limits ≡ readNumbers Bounds n n limits
+    numbers-are = bounds-tested (eq-eqb b 128 (sym long ∙ right))
+
+    part-are : readNumbers Bounds n (length (take n cleared)) limits ≡ readBounds b n limits
+    part-are = ap (λ k. readNumbers Bounds n k limits) (sym bounds-long) ∙ sym numbers-are
+
+    pub bounds-answered : {o : Told (Unit {0})} → o ≡ told (reported (λ zs. tt {0}) (readNumbers Bounds n (length (take n cleared)) limits))
+        → o ≡ told (reported (λ zs. tt {0}) (readBounds b n limits))
+    bounds-answered says = says ∙ ap (λ (o : Outcome (List ℤ)). told (reported (λ zs. tt {0}) o)) part-are
+
+    rest-is : drop n cleared ≡ replicate (b - n) (pos 0)
+    rest-is = ap (drop n) zeros ∙ drop-zeros (pos 0) n b
+
+    pub bounds-left : {part : List ℤ} → part ≡ output (length (take n cleared)) (pos 0) (λ zs. zs) (readNumbers Bounds n (length (take n cleared)) limits)
+        → part ++ drop n cleared ≡ output b (pos 0) (λ zs. zs) (readBounds b n limits)
+    bounds-left {part} holds =
+        go (readNumbers Bounds n n limits) refl
+        (holds ∙ ap (λ k. output k (pos 0) (λ zs. zs) (readNumbers Bounds n k limits)) (sym bounds-long))
+        ∙ sym (ap (output b (pos 0) (λ zs. zs)) numbers-are)
+      where
+        go : (o : Outcome (List ℤ)) → readNumbers Bounds n n limits ≡ o → part ≡ output n (pos 0) (λ zs. zs) o
+            → part ++ drop n cleared ≡ output b (pos 0) (λ zs. zs) o
+        go (yields zs) is e =
+            let full = numbers-filled Bounds n n limits zs is .read in
+            ap (λ (xs : List ℤ). xs ++ drop n cleared) (e ∙ filled-all n (pos 0) zs full)
+            ∙ ap (λ (xs : List ℤ). zs ++ xs) (rest-is ∙ ap (λ k. replicate (b - k) (pos 0)) (sym full))
+        go (refuses fault place) is e =
+            let all : n + (b - n) ≡ b = omega (arith, long) in
+            ap (λ (xs : List ℤ). xs ++ drop n cleared) e ∙ ap (λ (xs : List ℤ). replicate n (pos 0) ++ xs) rest-is
+            ∙ replicate-append-replicate n (b - n) (pos 0) ∙ ap (λ k. replicate k (pos 0)) all
+
+-- ---- the problem
+
+-- The sizes that are told are in range.
+pub told-few : (r c w : ℕ) (sheet : List ℕ) {a : GraphAnswer} {s : Shape} {n : ℕ} → graphSays a ≡ told (reported shapeOf (readGraph r c w sheet))
+    → a ≡ GraphAnswer.Graph s → n ≡ verticesIn s → n ≤ 128
+told-few r c w sheet says is all =
+    let y = graph-yielded says is in
+    let g = y .value in
+    let sizes = sizes-hold (g .kind) (g .rows) (g .columns) (g .edges) (graph-whole r c w sheet g (y .yielded) .1) in
+    omega (arith, all, ap verticesIn (y .told), sizes .order)
+
+-- What is left where reading has ended, or has a problem.
+module _ {W : Run Problem} {r c w b : ℕ} {row column : List ℕ} {weight bound : List ℤ} where
+  zeros-left : {source : Source} {fault : Fault} {place : ℕ} → W ≡ ends source fault place → row ≡ replicate r 0 → column ≡ replicate c 0
+      → weight ≡ replicate w (pos 0) → bound ≡ replicate b (pos 0) → ProblemLeft W r c w b row column weight bound
+  zeros-left e i j k l = record {
+    rows = i ∙ sym (ap (runOutput r 0 (λ (P : Problem). P .graph .row)) e);
+    columns = j ∙ sym (ap (runOutput c 0 (λ (P : Problem). P .graph .column)) e);
+    weights = k ∙ sym (ap (runOutput w (pos 0) (λ (P : Problem). P .graph .weight)) e);
+    bounds = l ∙ sym (ap (runOutput b (pos 0) (λ (P : Problem). P .bound)) e);
+  }
+
+  problem-left : (P : Problem) → W ≡ has P → row ≡ filled r 0 (P .graph .row) → column ≡ filled c 0 (P .graph .column)
+      → weight ≡ filled w (pos 0) (P .graph .weight) → bound ≡ filled b (pos 0) (P .bound) → ProblemLeft W r c w b row column weight bound
+  problem-left P e i j k l = record {
+    rows = i ∙ sym (ap (runOutput r 0 (λ (Q : Problem). Q .graph .row)) e);
+    columns = j ∙ sym (ap (runOutput c 0 (λ (Q : Problem). Q .graph .column)) e);
+    weights = k ∙ sym (ap (runOutput w (pos 0) (λ (Q : Problem). Q .graph .weight)) e);
+    bounds = l ∙ sym (ap (runOutput b (pos 0) (λ (Q : Problem). Q .bound)) e);
+  }
+
+-- What an answer says, and what is left.
+abbrev pub Answers : ℕ → ℕ → ℕ → ℕ → List ℕ → List ℕ → Run Shape → List ℕ → List ℕ → List ℤ → List ℤ → Type 0
+Answers r c w b sheet limits says row column weight bound =
+    (says ≡ runReported problemShape (readProblem r c w b sheet limits)) × ProblemLeft (readProblem r c w b sheet limits) r c w b row column weight bound
+
+-- What reading comes to after the graph.
+abbrev pub withBounds : Graph → Outcome (List ℤ) → Run Problem
+withBounds g o = andThen (cameFrom Source.Limits o) (λ bound. has (record { graph = g; bound = bound }))
+
+module _ (r c w b : ℕ) (sheet limits : List ℕ) where
+  abbrev withGraph : Outcome Graph → Run Problem
+  withGraph o = andThen (cameFrom Source.Sheet o) (λ g. withBounds g (readBounds b (vertices g) limits))
+
+  graph-as : (o : Outcome Graph) → readGraph r c w sheet ≡ o → readProblem r c w b sheet limits ≡ withGraph o
   unfolding readProblem
-  problem-as limits o i j k e =
-      ap (λ (u : Outcome Graph). andThen (cameFrom Source.Sheet u) (λ g. readBounds g limits))
-      (ap (λ n. readGraph n 1024 1024 sheet) (sym i) ∙ ap (λ n. readGraph r n 1024 sheet) (sym j) ∙ ap (λ n. readGraph r c n sheet) (sym k) ∙ e)
+  graph-as o e = ap withGraph e
 
-  module _ {a : GraphAnswer} (says : graphSays a ≡ reported shapeOf (readGraph r c w sheet)) where
-    pub problem-refused : (limits : List ℕ) {f : Refusal} → a ≡ GraphAnswer.Refused f → r ≡ 1024 → c ≡ 1024 → w ≡ 1024
-        → ends Source.Sheet (f .fault) (f .place) ≡ readProblem sheet limits
-    problem-refused limits {f} is i j k = sym (problem-as limits (refuses (f .fault) (f .place)) i j k (graph-refused says is))
+  bounds-as : (g : Graph) {s : Shape} {n : ℕ} (o : Outcome (List ℤ)) → readGraph r c w sheet ≡ yields g → shapeOf g ≡ s → n ≡ verticesIn s
+      → readBounds b n limits ≡ o → readProblem r c w b sheet limits ≡ withBounds g o
+  bounds-as g o yielded same all e =
+      graph-as (yields g) yielded ∙ ap (λ k. withBounds g (readBounds b k limits)) (ap verticesIn same ∙ sym all) ∙ ap (withBounds g) e
+
+  -- The graph reader has answered a.
+  module _ {a : GraphAnswer} (says : graphSays a ≡ told (reported shapeOf (readGraph r c w sheet))) {row column : List ℕ} {weight : List ℤ}
+      (at-row : row ≡ output r 0 (λ (g : Graph). g .row) (readGraph r c w sheet))
+      (at-column : column ≡ output c 0 (λ (g : Graph). g .column) (readGraph r c w sheet))
+      (at-weight : weight ≡ output w (pos 0) (λ (g : Graph). g .weight) (readGraph r c w sheet)) where
+    pub sheet-refused : {f : Refusal} {bound : List ℤ} → a ≡ GraphAnswer.Refused f → bound ≡ replicate b (pos 0)
+        → Answers r c w b sheet limits (ends Source.Sheet (f .fault) (f .place)) row column weight bound
+    sheet-refused {f} is cleared =
+        let o = graph-refused says is in
+        let e = graph-as (refuses (f .fault) (f .place)) o in (
+          sym (ap (runReported problemShape) e),
+          zeros-left e
+              (at-row ∙ ap (output r 0 (λ (g : Graph). g .row)) o)
+              (at-column ∙ ap (output c 0 (λ (g : Graph). g .column)) o)
+              (at-weight ∙ ap (output w (pos 0) (λ (g : Graph). g .weight)) o)
+              cleared,
+        )
 
     module _ {s : Shape} (is : a ≡ GraphAnswer.Graph s) where
-      -- The sizes that are told are in range.
-      pub told-sizes : SizesHold (s .kind) (s .rows) (s .columns) (s .edges)
-      told-sizes =
-          let y = graph-yielded says is in
-          let g = y .value in
-          subst (λ (t : Shape). SizesHold (t .kind) (t .rows) (t .columns) (t .edges)) (y .told)
-          (sizes-hold (g .kind) (g .rows) (g .columns) (g .edges) (graph-whole r c w sheet g (y .yielded) .1))
-
-      module _ {row column : List ℕ} {weight : List ℤ} (at-row : row ≡ output r 0 (λ (g : Graph). g .row) (readGraph r c w sheet))
-          (at-column : column ≡ output c 0 (λ (g : Graph). g .column) (readGraph r c w sheet))
-          (at-weight : weight ≡ output w (pos 0) (λ (g : Graph). g .weight) (readGraph r c w sheet)) where
-        -- The graph that is told, with the edges that are left, is the one that is read.
-        told-graph : (g : Graph) → readGraph r c w sheet ≡ yields g → shapeOf g ≡ s → storedGraph s row column weight ≡ g
-        told-graph g yielded told =
-            let long = lengths-hold g (graph-whole r c w sheet g yielded .0) in
-            let p = first-of r (g .edges) 0 (g .row) (at-row ∙ ap (output r 0 (λ (d : Graph). d .row)) yielded) (long .0) in
-            let q = first-of c (g .edges) 0 (g .column) (at-column ∙ ap (output c 0 (λ (d : Graph). d .column)) yielded) (long .1) in
-            let u = first-of w (g .edges) (pos 0) (g .weight) (at-weight ∙ ap (output w (pos 0) (λ (d : Graph). d .weight)) yielded) (long .2) in
-            ap (λ (t : Shape). storedGraph t row column weight) (sym told)
-            ∙ ap (λ (xs : List ℕ). graphOf (shapeOf g) xs (take (g .edges) column) (take (g .edges) weight)) p
-            ∙ ap (λ (xs : List ℕ). graphOf (shapeOf g) (g .row) xs (take (g .edges) weight)) q
-            ∙ ap (λ (xs : List ℤ). graphOf (shapeOf g) (g .row) (g .column) xs) u
-
-        pub problem-read : (limits : List ℕ) {x : Run Problem} → r ≡ 1024 → c ≡ 1024 → w ≡ 1024 →
-            x ≡ readBounds (storedGraph s row column weight) limits → x ≡ readProblem sheet limits
-        problem-read limits i j k e =
+      -- The reader of the bounds has answered d.
+      module _ {n : ℕ} (all : n ≡ verticesIn s) {d : NumbersAnswer} (answer : numbersSay d ≡ told (reported (λ zs. tt {0}) (readBounds b n limits)))
+          {bound : List ℤ} (at-bound : bound ≡ output b (pos 0) (λ zs. zs) (readBounds b n limits)) where
+        pub limits-refused : {f : Refusal} {row′ column′ : List ℕ} {weight′ : List ℤ} → d ≡ NumbersAnswer.Refused f → row′ ≡ replicate r 0
+            → column′ ≡ replicate c 0 → weight′ ≡ replicate w (pos 0)
+            → Answers r c w b sheet limits (ends Source.Limits (f .fault) (f .place)) row′ column′ weight′ bound
+        limits-refused {f} ended i j k =
             let y = graph-yielded says is in
-            e ∙ ap (λ (g : Graph). readBounds g limits) (told-graph (y .value) (y .yielded) (y .told))
-            ∙ sym (problem-as limits (yields (y .value)) i j k (y .yielded))
+            let o = numbers-refused answer ended in
+            let e = bounds-as (y .value) (refuses (f .fault) (f .place)) (y .yielded) (y .told) all o in
+            (sym (ap (runReported problemShape) e), zeros-left e i j k (at-bound ∙ ap (output b (pos 0) (λ zs. zs)) o))
+
+        pub problem-read : d ≡ NumbersAnswer.Read → Answers r c w b sheet limits (has s) row column weight bound
+        problem-read came =
+            let y = graph-yielded says is in
+            let o = numbers-yielded answer came in
+            let e = bounds-as (y .value) (yields (o .value)) (y .yielded) (y .told) all (o .yielded) in (
+              ap (λ (t : Shape). has t) (sym (y .told)) ∙ sym (ap (runReported problemShape) e),
+              problem-left (record { graph = y .value; bound = o .value }) e
+                  (at-row ∙ ap (output r 0 (λ (g : Graph). g .row)) (y .yielded))
+                  (at-column ∙ ap (output c 0 (λ (g : Graph). g .column)) (y .yielded))
+                  (at-weight ∙ ap (output w (pos 0) (λ (g : Graph). g .weight)) (y .yielded))
+                  (at-bound ∙ ap (output b (pos 0) (λ zs. zs)) (o .yielded)),
+            )

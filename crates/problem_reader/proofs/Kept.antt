@@ -15,12 +15,13 @@ use Rattle.graph.specs.declared.Fault.{Fault}
 use Rattle.graph.specs.declared.Fault.the-variants.{TextLength, Header, SizeLine, Sizes, LaterLine, Ends, Weight, SameEnds, LentLength, Disagreement}
 use Rattle.graph.specs.declared.Refusal.{Refusal}
 use Rattle.graph.specs.declared.Shape.{Shape}
-use Rattle.graph.specs.Refusal.{Outcome, yields, refuses, once, passing, reported}
+use Rattle.graph.specs.Refusal.{Outcome, yields, refuses, told, once, passing, reported}
 use Rattle.graph.specs.Limits.{mostEdges, mostNumbers}
 use Rattle.graph.specs.Graph.{Graph, shapeOf, upTo, shapeInRange, sizesInRange, endsInRange, weightInRange, joined}
 use Rattle.graph.specs.Tests.{graphLengths, graphTests}
 use Rattle.graph.proofs.Ranges.{_also_}
 use Rattle.graph.proofs.Passing.{zero-one, once-yields, passes}
+use Rattle.graph.proofs.Told.{told-same}
 use Rattle.layout.specs.declared.Numbers.{Numbers}
 use Rattle.layout.specs.declared.GraphAnswer.{GraphAnswer}
 use Rattle.layout.specs.declared.GraphAnswer.the-variants as GraphAnswer
@@ -282,23 +283,25 @@ module _ {A B : Type 0} (f : A → B) where
   reported-refuses (refuses g p) fault place e = cc
 
 -- What the readers' answers say of the outcomes that they report.
-module _ {a : GraphAnswer} {o : Outcome Graph} (says : graphSays a ≡ reported shapeOf o) where
+module _ {a : GraphAnswer} {o : Outcome Graph} (says : graphSays a ≡ told (reported shapeOf o)) where
   pub graph-yielded : {s : Shape} → a ≡ GraphAnswer.Graph s → Yielded shapeOf o s
-  graph-yielded {s} is = reported-yields shapeOf o s (sym (ap graphSays is) ∙ says)
+  graph-yielded {s} is = reported-yields shapeOf o s (told-same (yields s) (reported shapeOf o) (sym (ap graphSays is) ∙ says))
 
   pub graph-refused : {r : Refusal} → a ≡ GraphAnswer.Refused r → o ≡ refuses (r .fault) (r .place)
-  graph-refused {r} is = reported-refuses shapeOf o (r .fault) (r .place) (sym (ap graphSays is) ∙ says)
+  graph-refused {r} is = reported-refuses shapeOf o (r .fault) (r .place) (told-same (refuses (r .fault) (r .place)) (reported shapeOf o) (sym (ap graphSays is) ∙ says))
 
-module _ {a : NumbersAnswer} {o : Outcome (List ℤ)} (says : numbersSay a ≡ reported (λ zs. tt {0}) o) where
+module _ {a : NumbersAnswer} {o : Outcome (List ℤ)} (says : numbersSay a ≡ told (reported (λ zs. tt {0}) o)) where
   pub numbers-yielded : a ≡ NumbersAnswer.Read → Yielded (λ zs. tt {0}) o tt
-  numbers-yielded is = reported-yields (λ zs. tt {0}) o tt (sym (ap numbersSay is) ∙ says)
+  numbers-yielded is = reported-yields (λ zs. tt {0}) o tt (told-same (yields tt) (reported (λ zs. tt {0}) o) (sym (ap numbersSay is) ∙ says))
 
   pub numbers-refused : {r : Refusal} → a ≡ NumbersAnswer.Refused r → o ≡ refuses (r .fault) (r .place)
-  numbers-refused {r} is = reported-refuses (λ zs. tt {0}) o (r .fault) (r .place) (sym (ap numbersSay is) ∙ says)
+  numbers-refused {r} is = reported-refuses (λ zs. tt {0}) o (r .fault) (r .place)
+      (told-same (refuses (r .fault) (r .place)) (reported (λ zs. tt {0}) o) (sym (ap numbersSay is) ∙ says))
 
-module _ {a : SubgraphAnswer} {o : Outcome (List ℕ)} (says : subgraphSays a ≡ reported (λ x. tt {0}) o) where
+module _ {a : SubgraphAnswer} {o : Outcome (List ℕ)} (says : subgraphSays a ≡ told (reported (λ x. tt {0}) o)) where
   pub subgraph-yielded : a ≡ SubgraphAnswer.Read → Yielded (λ x. tt {0}) o tt
-  subgraph-yielded is = reported-yields (λ x. tt {0}) o tt (sym (ap subgraphSays is) ∙ says)
+  subgraph-yielded is = reported-yields (λ x. tt {0}) o tt (told-same (yields tt) (reported (λ x. tt {0}) o) (sym (ap subgraphSays is) ∙ says))
 
   pub subgraph-refused : {r : Refusal} → a ≡ SubgraphAnswer.Refused r → o ≡ refuses (r .fault) (r .place)
-  subgraph-refused {r} is = reported-refuses (λ x. tt {0}) o (r .fault) (r .place) (sym (ap subgraphSays is) ∙ says)
+  subgraph-refused {r} is = reported-refuses (λ x. tt {0}) o (r .fault) (r .place)
+      (told-same (refuses (r .fault) (r .place)) (reported (λ x. tt {0}) o) (sym (ap subgraphSays is) ∙ says))

@@ -1,4 +1,6 @@
 // Reads a problem: a graph (sheet) and the bounds (limits) of its vertices.
+use graph::Fault;
+use graph::MOST_VERTICES;
 use graph::Refusal;
 use graph::Shape;
 use layout::GraphAnswer;
@@ -6,14 +8,14 @@ use layout::Numbers;
 use layout::NumbersAnswer;
 use report::Source;
 ghost use mathlib.Core.Path.{_≡_};
-ghost use mathlib.Core.List.{List};
-ghost use Prim.Native.Nat.{ℕ};
-ghost use lib.IntN.{ℤ};
+ghost use Prim.Native.Nat.{_≤_};
+ghost use lib.IntN.{pos};
 ghost use lib.ListN.{length};
-ghost use Rattle.graph.specs.Limits.{mostVertices, mostEdges};
-ghost use Rattle.graph.specs.Passed.{SizesHold};
-ghost use Rattle.report.specs.Programs.{readBounds, readProblem};
-ghost use Rattle.problem_reader.specs.Problem.{storedGraph, problemSays, Sized};
+ghost use Rattle.graph.specs.Limits.{mostVertices};
+ghost use Rattle.graph.specs.Refusal.{told, reported, output};
+ghost use Rattle.layout.specs.Answers.{numbersSay};
+ghost use Rattle.report.specs.Programs.{runReported, readBounds, readProblem};
+ghost use Rattle.problem_reader.specs.Problem.{problemShape, problemSays, ProblemLeft};
 
 // The shape of a problem's graph; or the refusal that ends the reading, and the text that it comes from.
 pub enum ProblemAnswer {
@@ -21,25 +23,24 @@ pub enum ProblemAnswer {
     Refused { source: Source, refusal: Refusal },
 }
 
-// Reads the bounds of `limits`, whatever edges the graph has.
-fn read_bounds(limits: &[u8], s: Shape, bound: &mut [i32]) -> ProblemAnswer
-    requires { ⌜ SizesHold (s .kind) (s .rows) (s .columns) (s .edges) ⌝ }
-    requires { ⌜ length (now bound) ≡ mostVertices ⌝ }
-    ensures says { λ r. ⌜ ((row column : List ℕ) (weight : List ℤ) → problemSays r row column weight (now (bound .exit)) ≡ readBounds (storedGraph s row column weight) (now (limits .entry))) ⌝ }
-    ensures sized { λ r. ⌜ Sized r ⌝ }
+// Reads the bounds of n vertices. `bound` holds them, and then 0; after a refusal it holds only 0.
+fn read_bounds(limits: &[u8], n: u64, bound: &mut [i32]) -> NumbersAnswer
+    requires { ⌜ n ≤ mostVertices ⌝ }
+    ensures says { λ r. ⌜ numbersSay r ≡ told (reported (λ zs. tt) (readBounds (length (now (bound .entry))) n (now (limits .entry)))) ⌝ }
+    ensures bounds { λ _. ⌜ now (bound .exit) ≡ output (length (now (bound .entry))) (pos 0) (λ zs. zs) (readBounds (length (now (bound .entry))) n (now (limits .entry))) ⌝ }
 {
-    let n = checks::vertex_count(s);
-    let count = n as usize;
-    match number_reader::read_numbers(limits, Numbers::Bounds, n as u32, &mut bound[..count]) {
-        NumbersAnswer::Refused(refusal) => ProblemAnswer::Refused {
-            source: Source::Limits,
-            refusal,
-        },
-        NumbersAnswer::Read => ProblemAnswer::Read(s),
+    lent::clear_integers(bound);
+    if bound.len() != MOST_VERTICES {
+        return NumbersAnswer::Refused(Refusal {
+            fault: Fault::LentLength,
+            place: 0,
+        });
     }
+    let count = n as usize;
+    number_reader::read_numbers(limits, Numbers::Bounds, n as u32, &mut bound[..count])
 }
 
-// Reads the graph of `sheet` and the bounds of `limits`.
+// Reads the graph of `sheet` and the bounds of `limits`. The four arrays hold them, and then 0; after a refusal they hold only 0.
 pub fn read_problem(
     sheet: &[u8],
     limits: &[u8],
@@ -48,15 +49,28 @@ pub fn read_problem(
     weight: &mut [i32],
     bound: &mut [i32],
 ) -> ProblemAnswer
-    requires { ⌜ (length (now row) ≡ mostEdges) × (length (now column) ≡ mostEdges) × (length (now weight) ≡ mostEdges) × (length (now bound) ≡ mostVertices) ⌝ }
-    ensures says { λ r. ⌜ problemSays r (now (row .exit)) (now (column .exit)) (now (weight .exit)) (now (bound .exit)) ≡ readProblem (now (sheet .entry)) (now (limits .entry)) ⌝ }
-    ensures sized { λ r. ⌜ Sized r ⌝ }
+    ensures says { λ r. ⌜ problemSays r ≡ runReported problemShape (readProblem (length (now (row .entry))) (length (now (column .entry))) (length (now (weight .entry))) (length (now (bound .entry))) (now (sheet .entry)) (now (limits .entry))) ⌝ }
+    ensures arrays { λ _. ⌜ ProblemLeft (readProblem (length (now (row .entry))) (length (now (column .entry))) (length (now (weight .entry))) (length (now (bound .entry))) (now (sheet .entry)) (now (limits .entry))) (length (now (row .entry))) (length (now (column .entry))) (length (now (weight .entry))) (length (now (bound .entry))) (now (row .exit)) (now (column .exit)) (now (weight .exit)) (now (bound .exit)) ⌝ }
 {
     match graph_reader::read_graph(sheet, row, column, weight) {
-        GraphAnswer::Refused(refusal) => ProblemAnswer::Refused {
-            source: Source::Sheet,
-            refusal,
+        GraphAnswer::Refused(refusal) => {
+            lent::clear_integers(bound);
+            ProblemAnswer::Refused {
+                source: Source::Sheet,
+                refusal,
+            }
+        }
+        GraphAnswer::Graph(s) => match read_bounds(limits, checks::vertex_count(s), bound) {
+            NumbersAnswer::Refused(refusal) => {
+                lent::clear_naturals(row);
+                lent::clear_naturals(column);
+                lent::clear_integers(weight);
+                ProblemAnswer::Refused {
+                    source: Source::Limits,
+                    refusal,
+                }
+            }
+            NumbersAnswer::Read => ProblemAnswer::Read(s),
         },
-        GraphAnswer::Graph(s) => read_bounds(limits, s, bound),
     }
 }

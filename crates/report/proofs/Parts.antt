@@ -1,14 +1,15 @@
 -- A line is written part by part: names and words with one blank between them, and byte 10 at its end.
 use mathlib.Core.Path.{_≡_, refl, sym, ap, _∙_}
-use mathlib.Core.Bool.{true, false}
+use mathlib.Core.Bool.{Bool, true, false}
 use mathlib.Core.List.{List, [], _∷_, _++_, append-assoc}
 use Prim.Native.Nat.{ℕ, _+_, _-_, _^_, _≤_, _<_}
 use native.Mathlib.Nat.{zero-add}
 use native.Mathlib.Omega.{arith}
+use borrow.Author.Tests.{le-leb, lt-leb}
 use borrow.Rule.Slice.PartMut.{putMid}
 use lib.IntN.{ℤ, pos}
-use lib.ListN.{length, take, drop, set, length-append}
-use lib.Seq.{take-at, append-snoc}
+use lib.ListN.{length, take, drop, set, replicate, length-append, length-replicate}
+use lib.Seq.{append-snoc}
 use lib.Signed.{ltZ, mag}
 use mir.Syntax.{w64}
 use mir.Val.{SFits, hbits}
@@ -19,11 +20,11 @@ use Rattle.graph.specs.declared.Fault.{Fault}
 use Rattle.graph.specs.Refusal.{numberOf}
 use Rattle.layout.specs.Text.{bytes, decimal, spaced, unlines}
 use Rattle.writer.specs.Written.{Puts, over}
-use Rattle.writer.proofs.Over.{puts-none, puts-long, puts-byte, puts-then, puts-same, puts-part}
+use Rattle.writer.proofs.Over.{puts-none, puts-long, puts-byte, puts-then, puts-same, puts-part, over-zeros}
 use Rattle.writer.proofs.Put.{twenty-digits}
 use Rattle.report.specs.declared.Source.{Source}
 use Rattle.report.specs.declared.Source.the-variants as Source
-use Rattle.report.specs.Report.{nameOf, refusedLine, signed, Composed}
+use Rattle.report.specs.Report.{nameOf, refusedLine, signed, lineRoom, composedBytes, composedLength, Composed}
 use Rattle.report.proofs.Signs.{fromBits, signed-below, signed-above}
 
 -- Two parts, the second written where the first ends.
@@ -112,42 +113,72 @@ module _ (u : List ℕ) (z : ℤ) {d m : List ℕ} {e : ℕ} (f : mag z < 2 ^ hb
 
 -- ---- the whole line
 
-over-start : (d xs : List ℕ) → over d 0 xs ≡ xs ++ drop (length xs) d
-unfolding over
-over-start d xs = ap (λ (n : ℕ). xs ++ drop n d) (zero-add (length xs))
-
--- A text that was written at the start stands there.
-puts-composed : {d xs l : List ℕ} {e : ℕ} → Puts d 0 xs l e → e ≤ length d → Composed xs l e
-puts-composed {d} {xs} {l} {e} p h =
-    let n : length xs ≡ e = omega (arith, p .place) in
-    record {
-      bytes = ap (take e) (p .text ∙ over-start d xs) ∙ take-at xs (drop (length xs) d) e n;
-      inside = omega (arith, puts-long p (omega arith));
-    }
-
 line-is : (l : List ℕ) → l ++ (10 ∷ []) ≡ unlines (l ∷ [])
 unfolding unlines
 line-is l = refl
 
-pub line-composed : {ws : List (List ℕ)} {d l : List ℕ} {e n : ℕ} → Words d ws l e n → n < length d → Composed (unlines (spaced ws ∷ [])) (set l e 10) (e + 1)
-line-composed {ws} p h =
-    puts-composed (puts-same (puts-byte (p .puts) 10 (omega (arith, p .puts .place))) (line-is (spaced ws))) (omega arith)
+pub line-put : {ws : List (List ℕ)} {d l : List ℕ} {e n : ℕ} → Words d ws l e n → n < length d → Puts d 0 (unlines (spaced ws ∷ [])) (set l e 10) (e + 1)
+line-put {ws} p h = puts-same (puts-byte (p .puts) 10 (omega (arith, p .puts .place))) (line-is (spaced ws))
 
 -- ---- the line of a refusal
 
-pub refused-composed : (source : Source) (fault : Fault) (place n : ℕ) {d l₁ l₂ l₃ l₄ l₅ l₆ : List ℕ} {a₁ a₂ a₃ a₄ a₅ a₆ : ℕ} → 256 ≤ length d →
+pub refusal-put : (source : Source) (fault : Fault) (place n : ℕ) {d l₁ l₂ l₃ l₄ l₅ l₆ : List ℕ} {a₁ a₂ a₃ a₄ a₅ a₆ : ℕ} → 256 ≤ length d →
     n ≡ numberOf fault
     → Puts d 0 (bytes "refused ") l₁ a₁ → Puts l₁ a₁ (decimal n) l₂ a₂ × (a₂ ≤ a₁ + 20)
     → Puts l₂ a₂ (bytes " at ") l₃ a₃ → Puts l₃ a₃ (decimal place) l₄ a₄ × (a₄ ≤ a₃ + 20)
     → Puts l₄ a₄ (bytes " in ") l₅ a₅ → Puts l₅ a₅ (nameOf source) l₆ a₆ × (a₆ ≤ a₅ + 10)
-    → Composed (refusedLine source fault place) (set l₆ a₆ 10) (a₆ + 1)
+    → Puts d 0 (refusedLine source fault place) (set l₆ a₆ 10) (a₆ + 1)
 unfolding refusedLine
-refused-composed source fault place n {d} {l₂ = l₂} {l₄ = l₄} {l₆ = l₆} {a₂ = a₂} {a₄ = a₄} {a₆ = a₆} room is p₁ (p₂, k₂) p₃ (p₄, k₄) p₅ (p₆, k₆) =
+refusal-put source fault place n {d} {l₂ = l₂} {l₄ = l₄} {l₆ = l₆} {a₂ = a₂} {a₄ = a₄} {a₆ = a₆} room is p₁ (p₂, k₂) p₃ (p₄, k₄) p₅ (p₆, k₆) =
     let number : Words d (bytes "refused" ∷ decimal n ∷ []) l₂ a₂ 28 = first-pair (bytes "refused") (decimal n)
     (puts-next p₁ p₂ (omega (arith, p₁ .place))) (omega (arith, p₁ .place)) (omega arith) in
     let at : Words d (bytes "refused" ∷ decimal n ∷ bytes "at" ∷ decimal place ∷ []) l₄ a₄ 52 =
     next-pair (bytes "at") (decimal place) number (puts-next p₃ p₄ (omega (arith, number, p₃ .place))) (omega (arith, number, p₃ .place)) (omega arith) in
     rw (← is)
-    (line-composed
+    (line-put
     (next-pair (bytes "in") (nameOf source) {n = 66} at (puts-next p₅ p₆ (omega (arith, at, p₅ .place))) (omega (arith, at, p₅ .place))
     (omega arith)) (omega arith))
+
+-- ---- what is left in a buffer that was cleared before
+
+module _ (text before : List ℕ) {cleared : List ℕ} (zeros : cleared ≡ replicate (length before) 0) where
+  long : length cleared ≡ length before
+  long = ap length zeros ∙ length-replicate (length before) 0
+
+  -- It is too short.
+  pub no-room : length cleared < 256 → Composed lineRoom text before cleared 0
+  no-room h =
+      let short = lt-leb 256 (length before) (omega (arith, long)) in
+      record {
+        content = zeros ∙ ap (λ (b : Bool). composedBytes b (length before) text) (sym short);
+        size = ap (λ (b : Bool). composedLength b text) (sym short);
+      }
+
+  -- The text was written at its start.
+  pub line-composed : {after : List ℕ} {r : ℕ} → 256 ≤ length cleared → Puts cleared 0 text after r → Composed lineRoom text before after r
+  line-composed h p =
+      let room = le-leb 256 (length before) (omega (arith, long)) in
+      record {
+        content =
+            p .text ∙ ap (λ (d : List ℕ). over d 0 text) zeros ∙ over-zeros (length before) text
+            ∙ ap (λ (b : Bool). composedBytes b (length before) text) (sym room);
+        size = p .place ∙ zero-add (length text) ∙ ap (λ (b : Bool). composedLength b text) (sym room);
+      }
+
+-- What is answered is within what is left.
+pub composed-inside : {room : ℕ → Bool} {text before after : List ℕ} {r : ℕ} → Composed room text before after r → r ≤ length after
+composed-inside {room} {text} {before} {after} {r} C = go (room (length before)) (C .content) (C .size)
+  where
+    go : (b : Bool) → after ≡ composedBytes b (length before) text → r ≡ composedLength b text → r ≤ length after
+    go true e f = omega (arith, ap length e, length-append text (replicate (length before - length text) 0))
+    go false e f = omega arith
+
+-- Where there is room by one rule and by another, the same is left.
+pub other-room : {room : ℕ → Bool} (rule : ℕ → Bool) {text before after : List ℕ} {r : ℕ} → room (length before) ≡ true → rule (length before) ≡ true
+    → Composed room text before after r → Composed rule text before after r
+other-room rule {text} {before} is also C =
+    let same = is ∙ sym also in
+    record {
+      content = C .content ∙ ap (λ (b : Bool). composedBytes b (length before) text) same;
+      size = C .size ∙ ap (λ (b : Bool). composedLength b text) same;
+    }

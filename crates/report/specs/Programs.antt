@@ -1,12 +1,15 @@
 -- What the two programs write, from the texts of the files they read. An absent file is an empty text.
 use Prim.Native.Nat.{ℕ, _+_}
 use mathlib.Core.Path.{_≡_}
-use mathlib.Core.List.{List}
+use mathlib.Core.Bool.{Bool, true}
+use mathlib.Core.List.{List, [], _∷_}
+use lib.Dec.{eqb}
 use lib.IntN.{ℤ}
-use lib.ListN.{take, drop}
+use lib.ListN.{length, replicate, take, drop}
 use Rattle.graph.specs.declared.Fault.{Fault}
-use Rattle.graph.specs.Limits.{mostEdges, workspaceNumbers}
-use Rattle.graph.specs.Refusal.{Outcome, yields, refuses}
+use Rattle.graph.specs.declared.Fault.the-variants.{LentLength}
+use Rattle.graph.specs.Limits.{mostVertices, mostEdges, subgraphBytes, workspaceNumbers}
+use Rattle.graph.specs.Refusal.{Outcome, yields, refuses, once, passing, filled}
 use Rattle.graph.specs.Graph.{Graph, vertices}
 use Rattle.graph.specs.Subgraph.{Optimal}
 use Rattle.layout.specs.declared.Numbers.the-variants.{Bounds, Prices}
@@ -24,6 +27,16 @@ use Rattle.report.specs.Report.{refusedLine, measuredLine, Composed}
 pub data Run (A : Type 0) : Type 0 where
   has : A → Run A
   ends : Source → Fault → ℕ → Run A
+
+-- What is reported of a value; a refusal stays.
+abbrev pub runReported : {A B : Type 0} → (A → B) → Run A → Run B
+runReported f (has a) = has (f a)
+runReported f (ends source fault place) = ends source fault place
+
+-- What a lent output of n numbers holds afterwards, as `output` says it of a call: the value's numbers and then z, or only z after a refusal.
+abbrev pub runOutput : {A N : Type 0} → ℕ → N → (A → List N) → Run A → List N
+runOutput n z f (has a) = filled n z (f a)
+runOutput n z f (ends source fault place) = replicate n z
 
 -- What comes from a text, or from no reader.
 abbrev pub cameFrom : {A : Type 0} → Source → Outcome A → Run A
@@ -44,12 +57,19 @@ pub record Problem : Type 0 where
   pub graph : Graph
   pub bound : List ℤ
 
-abbrev pub readBounds : Graph → List ℕ → Run Problem
-readBounds g limits =
-    andThen (cameFrom Source.Limits (readNumbers Bounds (vertices g) (vertices g) limits)) (λ bound. has (record { graph = g; bound = bound }))
+-- The bounds of n vertices, where the output has b numbers.
+abbrev pub readBounds : ℕ → ℕ → List ℕ → Outcome (List ℤ)
+readBounds b n limits = passing (once LentLength (eqb b mostVertices) ∷ []) (readNumbers Bounds n n limits)
 
-unfoldable pub readProblem : List ℕ → List ℕ → Run Problem
-readProblem sheet limits = andThen (cameFrom Source.Sheet (readGraph mostEdges mostEdges mostEdges sheet)) (λ g. readBounds g limits)
+-- Both, where the outputs have r, c, w and b numbers.
+unfoldable pub readProblem : ℕ → ℕ → ℕ → ℕ → List ℕ → List ℕ → Run Problem
+readProblem r c w b sheet limits =
+    andThen (cameFrom Source.Sheet (readGraph r c w sheet))
+    (λ g. andThen (cameFrom Source.Limits (readBounds b (vertices g) limits)) (λ bound. has (record { graph = g; bound = bound })))
+
+-- The programs lend as many as the largest problem has.
+abbrev pub problemOf : List ℕ → List ℕ → Run Problem
+problemOf sheet limits = readProblem mostEdges mostEdges mostEdges mostVertices sheet limits
 
 -- `mark` also reads plan.mtx and prices.mtx, first the prices of the vertices and then those of the edges, and takes no odd sets.
 abbrev pub markPrices : Graph → List ℤ → List ℕ → List ℤ → Run Measures
@@ -66,7 +86,7 @@ markProblem g bound plan prices = andThen (cameFrom Source.Plan (readSubgraph g 
 -- What `mark` writes.
 unfoldable pub markOutput : List ℕ → List ℕ → List ℕ → List ℕ → List ℕ
 markOutput sheet limits plan prices =
-    written measuredLine (andThen (readProblem sheet limits) (λ P. markProblem (P .graph) (P .bound) plan prices))
+    written measuredLine (andThen (problemOf sheet limits) (λ P. markProblem (P .graph) (P .bound) plan prices))
 
 -- `solve` lends the solver just the lengths that the graph gives.
 abbrev pub lentFor : Graph → Lent
@@ -79,14 +99,18 @@ solveProblem g bound = cameFrom Source.Input (solve g bound (lentFor g))
 unfoldable pub solveOutput : List ℕ → List ℕ → List ℕ → List ℕ
 solveOutput sheet limits x =
     written (λ g. subgraphText g x)
-    (andThen (readProblem sheet limits) (λ P. andThen (solveProblem (P .graph) (P .bound)) (λ u. has (P .graph))))
+    (andThen (problemOf sheet limits) (λ P. andThen (solveProblem (P .graph) (P .bound)) (λ u. has (P .graph))))
 
 -- What holds of that subgraph: it is optimal, wherever the solver accepts what is read.
 pub record Picked (sheet limits x : List ℕ) : Type 0 where
-  pub optimal : (P : Problem) → readProblem sheet limits ≡ has P → solveProblem (P .graph) (P .bound) ≡ has tt → Optimal (P .graph) (P .bound) x
+  pub optimal : (P : Problem) → problemOf sheet limits ≡ has P → solveProblem (P .graph) (P .bound) ≡ has tt → Optimal (P .graph) (P .bound) x
 
--- What `solve` leaves in a buffer of which it writes the first r bytes.
-pub record SolveComposed (sheet limits buffer : List ℕ) (r : ℕ) : Type 0 where
+-- `solve` composes in a buffer of just 16,384 bytes.
+abbrev pub subgraphRoom : ℕ → Bool
+subgraphRoom n = eqb n subgraphBytes
+
+-- What `solve` leaves of a buffer, and what it answers. Where there is no room it picks nothing.
+pub record SolveComposed (sheet limits before after : List ℕ) (r : ℕ) : Type 0 where
   pub chosen : List ℕ
-  pub picked : Picked sheet limits chosen
-  pub composed : Composed (solveOutput sheet limits chosen) buffer r
+  pub picked : subgraphRoom (length before) ≡ true → Picked sheet limits chosen
+  pub composed : Composed subgraphRoom (solveOutput sheet limits chosen) before after r

@@ -1,11 +1,13 @@
 -- The lines that the two programs write.
-use Prim.Native.Nat.{ℕ, suc, _≤_}
+use Prim.Native.Nat.{ℕ, suc}
 use mathlib.Core.Path.{_≡_}
+use mathlib.Core.Bool.{Bool, cond}
 use mathlib.Core.List.{List, [], _∷_}
+use lib.Dec.{leb}
 use lib.IntN.{ℤ, pos, negsuc}
-use lib.ListN.{length, take}
+use lib.ListN.{length, replicate}
 use Rattle.graph.specs.declared.Fault.{Fault}
-use Rattle.graph.specs.Refusal.{numberOf}
+use Rattle.graph.specs.Refusal.{numberOf, filled}
 use Rattle.layout.specs.Text.{bytes, decimal, spaced, unlines}
 use Rattle.dual.specs.declared.Measures.{Measures}
 use Rattle.report.specs.declared.Source.{Source}
@@ -44,11 +46,23 @@ measuredLine m =
     ∷ [])
     ∷ [])
 
--- The lines of a refusal and of a measuring are shorter than 256 bytes.
+-- ---- what is left in a buffer
+
+-- A buffer that is lent for a line must have room for any: both lines are shorter than 256 bytes.
 abbrev pub lineBytes : ℕ
 lineBytes = 256
 
--- A text stands at the start of a buffer, and r is its length: what a program writes.
-pub record Composed (text buffer : List ℕ) (r : ℕ) : Type 0 where
-  pub bytes : take r buffer ≡ text
-  pub inside : r ≤ length buffer
+abbrev pub lineRoom : ℕ → Bool
+lineRoom n = leb lineBytes n
+
+-- What a buffer of n bytes holds of a text: the text and then 0 where there is room for it, else only 0; and the length that is answered, 0 then.
+abbrev pub composedBytes : Bool → ℕ → List ℕ → List ℕ
+composedBytes room n text = cond room (filled n 0 text) (replicate n 0)
+
+abbrev pub composedLength : Bool → List ℕ → ℕ
+composedLength room text = cond room (length text) 0
+
+-- `after` is left of the buffer `before`, and r is answered, where `room` says which lengths have room.
+pub record Composed (room : ℕ → Bool) (text before after : List ℕ) (r : ℕ) : Type 0 where
+  pub content : after ≡ composedBytes (room (length before)) (length before) text
+  pub size : r ≡ composedLength (room (length before)) text

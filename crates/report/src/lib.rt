@@ -10,7 +10,7 @@ ghost use lib.ListN.{length};
 ghost use Rattle.integers.specs.Integer.{up, dn};
 ghost use Rattle.layout.specs.Text.{decimal};
 ghost use Rattle.writer.specs.Written.{Puts};
-ghost use Rattle.report.specs.Report.{nameOf, refusedLine, signed, measuredLine, Composed, lineBytes};
+ghost use Rattle.report.specs.Report.{nameOf, refusedLine, signed, measuredLine, lineBytes, lineRoom, Composed};
 
 // Room for either line, as specs/Report.antt defines it.
 pub const LINE_BYTES: usize = 256;
@@ -81,9 +81,9 @@ fn put_source(out: &mut [u8], at: usize, source: Source) -> usize
 }
 
 // Writes the line of a refusal at the start of `out`. The result is its length.
-pub fn put_refused(out: &mut [u8], source: Source, refusal: Refusal) -> usize
+fn put_refusal(out: &mut [u8], source: Source, refusal: Refusal) -> usize
     requires { ⌜ lineBytes ≤ length (now out) ⌝ }
-    ensures { λ r. ⌜ Composed (refusedLine source (refusal .fault) (refusal .place)) (now (out .exit)) r ⌝ }
+    ensures { λ r. ⌜ Puts (now (out .entry)) 0 (refusedLine source (refusal .fault) (refusal .place)) (now (out .exit)) r ⌝ }
 {
     let fault = refusal.fault;
     let place = refusal.place;
@@ -99,9 +99,9 @@ pub fn put_refused(out: &mut [u8], source: Source, refusal: Refusal) -> usize
 }
 
 // Writes the line of a measuring at the start of `out`. The result is its length.
-pub fn put_measures(out: &mut [u8], m: Measures) -> usize
+fn put_line(out: &mut [u8], m: Measures) -> usize
     requires { ⌜ lineBytes ≤ length (now out) ⌝ }
-    ensures { λ r. ⌜ Composed (measuredLine m) (now (out .exit)) r ⌝ }
+    ensures { λ r. ⌜ Puts (now (out .entry)) 0 (measuredLine m) (now (out .exit)) r ⌝ }
 {
     let mut at = put_named(out, 0, b"merit ", m.weight);
     at = put_named(out, at, b" total ", m.total);
@@ -112,4 +112,26 @@ pub fn put_measures(out: &mut [u8], m: Measures) -> usize
     at = put_named(out, at, b" gap ", m.gap);
     out[at] = 10;
     at + 1
+}
+
+// Writes the line of a refusal to `out`, 0 after its end. The result is its length; or 0, and `out` is cleared, where `out` is shorter than 256 bytes.
+pub fn put_refused(out: &mut [u8], source: Source, refusal: Refusal) -> usize
+    ensures { λ r. ⌜ Composed lineRoom (refusedLine source (refusal .fault) (refusal .place)) (now (out .entry)) (now (out .exit)) r ⌝ }
+{
+    lent::clear_bytes(out);
+    if out.len() < LINE_BYTES {
+        return 0;
+    }
+    put_refusal(out, source, refusal)
+}
+
+// Writes the line of a measuring to `out`, 0 after its end. The result is its length; or 0, and `out` is cleared, where `out` is shorter than 256 bytes.
+pub fn put_measures(out: &mut [u8], m: Measures) -> usize
+    ensures { λ r. ⌜ Composed lineRoom (measuredLine m) (now (out .entry)) (now (out .exit)) r ⌝ }
+{
+    lent::clear_bytes(out);
+    if out.len() < LINE_BYTES {
+        return 0;
+    }
+    put_line(out, m)
 }

@@ -1,35 +1,36 @@
 -- What a solved or refused problem leaves is what `solve` writes.
 use Prim.Native.Nat.{ℕ, _-_, _≤_}
-use mathlib.Core.Path.{_≡_, sym, ap, _∙_, subst}
+use mathlib.Core.Path.{_≡_, refl, sym, ap, _∙_, subst}
+use mathlib.Core.Bool.{Bool}
+use mathlib.Core.Logic.{_≢_}
 use mathlib.Core.List.{List, [], _++_}
 use native.Mathlib.Omega.{arith}
 use lib.IntN.{ℤ, pos}
 use lib.ListN.{length, take, replicate, length-replicate}
 use lib.Seq.{take-at}
+use borrow.Author.Tests.{le-leb, eq-eqb, ne-eqb}
 use Rattle.graph.specs.declared.Fault.{Fault}
 use Rattle.graph.specs.declared.Refusal.{Refusal}
 use Rattle.graph.specs.declared.Shape.{Shape}
-use Rattle.graph.specs.Refusal.{yields}
+use Rattle.graph.specs.Refusal.{Outcome, yields, refuses, told, filled}
 use Rattle.graph.specs.Graph.{Graph, vertices, verticesIn}
 use Rattle.graph.specs.Subgraph.{Optimal}
 use Rattle.graph.specs.Passed.{SizesHold, Passed, MarksHold}
 use Rattle.graph.proofs.Passing.{zero-one}
+use Rattle.graph.proofs.Told.{told-same}
 use Rattle.layout.specs.SubgraphText.{subgraphText}
 use Rattle.dual.specs.declared.SolveAnswer.{SolveAnswer}
 use Rattle.dual.specs.declared.SolveAnswer.the-variants as SolveAnswer
 use Rattle.dual.specs.Solve.{Lent, solve, solveSays, lentOf, Left}
 use Rattle.duality.proofs.Passed.{solve-passed}
-use Rattle.lent.proofs.Filling.{filled-length}
-use Rattle.readback.proofs.Fits.{text-le}
 use Rattle.writer.specs.Written.{Written}
 use Rattle.report.specs.declared.Source.{Source}
 use Rattle.report.specs.declared.Source.the-variants as Source
-use Rattle.report.specs.Report.{refusedLine, Composed}
-use Rattle.report.specs.Programs.{Run, has, ends, cameFrom, andThen, written, Problem, readProblem, lentFor, solveProblem, solveOutput, SolveComposed}
-use Rattle.problem_reader.specs.declared.ProblemAnswer.{ProblemAnswer}
-use Rattle.problem_reader.specs.declared.ProblemAnswer.the-variants as ProblemAnswer
-use Rattle.problem_reader.specs.Problem.{storedGraph, problemSays}
-use Rattle.problem_reader.proofs.Lent.{first-long}
+use Rattle.report.specs.Report.{refusedLine, lineRoom, composedBytes, composedLength, Composed}
+use Rattle.report.specs.Programs.{Run, has, ends, cameFrom, andThen, written, Problem, problemOf, lentFor, solveProblem, solveOutput, subgraphRoom}
+use Rattle.report.specs.Programs.{SolveComposed}
+use Rattle.report.proofs.Parts.{composed-inside, other-room}
+use Rattle.problem_reader.proofs.Lent.{first-long, storedGraph, Stored}
 use Rattle.solve_writer.specs.Solution.{Solution}
 
 -- ---- what is lent
@@ -57,29 +58,37 @@ all-lent g {n} sizes all =
 
 -- ---- what is answered
 
+-- A line that was written to a buffer of 16,384 bytes.
+pub line-kept : {text before after : List ℕ} {r : ℕ} → length before ≡ 16384 → Composed lineRoom text before after r → Composed subgraphRoom text before after r
+line-kept {before = before} long = other-room subgraphRoom (le-leb 256 (length before) (omega arith)) (eq-eqb (length before) 16384 long)
+
 -- The solver is lent what the graph gives, and has answered a.
-module _ (g : Graph) (bound : List ℤ) {L : Lent} (lent : L ≡ lentFor g) {a : SolveAnswer} (says : solveSays a ≡ solve g bound L) where
-  outcome : {b : SolveAnswer} → a ≡ b → solveProblem g bound ≡ cameFrom Source.Input (solveSays b)
-  outcome is = ap (λ (l : Lent). cameFrom Source.Input (solve g bound l)) (sym lent) ∙ ap (cameFrom Source.Input) (sym says ∙ ap solveSays is)
+module _ (g : Graph) (bound : List ℤ) {L : Lent} (lent : L ≡ lentFor g) {a : SolveAnswer} (says : solveSays a ≡ told (solve g bound L)) where
+  outcome : {b : SolveAnswer} (o : Outcome (Unit {0})) → a ≡ b → solveSays b ≡ told o → solveProblem g bound ≡ cameFrom Source.Input o
+  outcome o is tells =
+      ap (λ (l : Lent). cameFrom Source.Input (solve g bound l)) (sym lent)
+      ∙ ap (cameFrom Source.Input) (told-same (solve g bound L) o (sym says ∙ ap solveSays is ∙ tells))
 
   -- What is written stands for what the solver says.
-  ends-with : {b : SolveAnswer} (x after : List ℕ) (r : ℕ) → a ≡ b
-      → Composed (written (λ h. subgraphText h x) (andThen (cameFrom Source.Input (solveSays b)) (λ u. has g))) after r
-      → Composed (written (λ h. subgraphText h x) (andThen (solveProblem g bound) (λ u. has g))) after r
-  ends-with x after r is h = subst (λ (s : Run (Unit {0})). Composed (written (λ h. subgraphText h x) (andThen s (λ u. has g))) after r) (sym (outcome is)) h
+  ends-with : {b : SolveAnswer} (o : Outcome (Unit {0})) (x : List ℕ) {before after : List ℕ} {r : ℕ} → a ≡ b → solveSays b ≡ told o
+      → Composed subgraphRoom (written (λ h. subgraphText h x) (andThen (cameFrom Source.Input o) (λ u. has g))) before after r
+      → Composed subgraphRoom (written (λ h. subgraphText h x) (andThen (solveProblem g bound) (λ u. has g))) before after r
+  ends-with o x {before} {after} {r} is tells h =
+      subst (λ (s : Run (Unit {0})). Composed subgraphRoom (written (λ h. subgraphText h x) (andThen s (λ u. has g))) before after r)
+      (sym (outcome o is tells)) h
 
-  pub refusal-left : {f : Refusal} {after : List ℕ} {r : ℕ} → a ≡ SolveAnswer.Refused f
-      → Composed (refusedLine Source.Input (f .fault) (f .place)) after r → Solution g bound after r
-  refusal-left {f} {after} {r} is h = record {
+  pub refusal-left : {f : Refusal} {before after : List ℕ} {r : ℕ} → a ≡ SolveAnswer.Refused f → length before ≡ 16384
+      → Composed lineRoom (refusedLine Source.Input (f .fault) (f .place)) before after r → Solution g bound before after r
+  refusal-left {f} is long h = record {
     chosen = [];
-    optimal = λ e. let s = sym (outcome is) ∙ e in zero-one (cc);
-    composed = ends-with [] after r is h;
+    optimal = λ e. let s = sym (outcome (refuses (f .fault) (f .place)) is refl) ∙ e in zero-one (cc);
+    composed = ends-with (refuses (f .fault) (f .place)) [] is refl (line-kept long h);
   }
 
   -- It has chosen x.
   module _ (is : a ≡ SolveAnswer.Solved) {x : List ℕ} {vertex edge workspace : List ℤ} (left : Left g bound L x vertex edge workspace) where
     accepts : solve g bound L ≡ yields tt
-    accepts = sym says ∙ ap solveSays is
+    accepts = told-same (solve g bound L) (yields tt) (sym says ∙ ap solveSays is)
 
     pub solved-passed : Passed g
     solved-passed = solve-passed g bound L accepts .passed
@@ -90,14 +99,15 @@ module _ (g : Graph) (bound : List ℤ) {L : Lent} (lent : L ≡ lentFor g) {a :
     marks-hold : MarksHold (g .edges) x
     marks-hold = record { long = optimal .feasible .long; each = optimal .feasible .marks }
 
-    -- The first r bytes of what was written hold its text.
-    text-composed : {after : List ℕ} {r : ℕ} → Written g x after r → Composed (subgraphText g x) after r
-    text-composed {after} {r} W =
-        let few = text-le g x (solved-passed .sound) marks-hold in
-        let long = ap length (W .text) ∙ filled-length 16384 0 (subgraphText g x) (omega arith) in
+    -- Its text was written.
+    text-composed : {before after : List ℕ} {r : ℕ} → length before ≡ 16384 → Written g x after r → Composed subgraphRoom (subgraphText g x) before after r
+    text-composed {before} long W =
+        let room = eq-eqb (length before) 16384 long in
         record {
-          bytes = ap (take r) (W .text) ∙ take-at (subgraphText g x) (replicate (16384 - length (subgraphText g x)) 0) r (sym (W .size));
-          inside = omega (arith, W .size, long, few);
+          content =
+              W .text ∙ ap (λ n. filled n 0 (subgraphText g x)) (sym long)
+              ∙ ap (λ (b : Bool). composedBytes b (length before) (subgraphText g x)) (sym room);
+          size = W .size ∙ ap (λ (b : Bool). composedLength b (subgraphText g x)) (sym room);
         }
 
     -- Its marks stand in the part of an array that was lent, and are written from there.
@@ -108,45 +118,69 @@ module _ (g : Graph) (bound : List ℤ) {L : Lent} (lent : L ≡ lentFor g) {a :
       pub part-marks : MarksHold (g .edges) (take (g .edges) (x ++ rest))
       part-marks = subst (MarksHold (g .edges)) (sym part) marks-hold
 
-      pub part-written : {after : List ℕ} {r : ℕ} → Written g (take (g .edges) (x ++ rest)) after r → Solution g bound after r
-      part-written {after} {r} w = record {
+      pub part-written : {before after : List ℕ} {r : ℕ} → length before ≡ 16384 → Written g (take (g .edges) (x ++ rest)) after r
+          → Solution g bound before after r
+      part-written {after = after} {r = r} long w = record {
         chosen = x;
         optimal = λ e. optimal;
-        composed = ends-with x after r is (text-composed (subst (λ (y : List ℕ). Written g y after r) part w));
+        composed = ends-with (yields tt) x is refl (text-composed long (subst (λ (y : List ℕ). Written g y after r) part w));
       }
 
 -- ---- a problem that is read or refused
 
--- The first r bytes of `after` hold what is written of a run, where x is the subgraph that is picked.
-abbrev Leaves : List ℕ → List ℕ → ℕ → Run Problem → Type 0
-Leaves x after r R = Composed (written (λ g. subgraphText g x) (andThen R (λ P. andThen (solveProblem (P .graph) (P .bound)) (λ u. has (P .graph))))) after r
-
-module _ {sheet limits after : List ℕ} {r : ℕ} where
-  read-solved : {P : Problem} → has P ≡ readProblem sheet limits → Solution (P .graph) (P .bound) after r → SolveComposed sheet limits after r
+module _ (sheet limits : List ℕ) {before after : List ℕ} {r : ℕ} where
+  -- What is left is what is written of a run, where x is the subgraph that is picked.
+  output-as : (x : List ℕ) {R : Run Problem} → R ≡ problemOf sheet limits
+      → Composed subgraphRoom
+      (written (λ g. subgraphText g x) (andThen R (λ P. andThen (solveProblem (P .graph) (P .bound)) (λ u. has (P .graph))))) before after r
+      → Composed subgraphRoom (solveOutput sheet limits x) before after r
   unfolding solveOutput
-  read-solved {P} is s = record {
-    chosen = s .chosen;
-    picked = record {
-      optimal = λ Q e.
-          let q : P ≡ Q = cc in
-          subst (λ (R : Problem). solveProblem (R .graph) (R .bound) ≡ has tt → Optimal (R .graph) (R .bound) (s .chosen)) q (s .optimal);
-    };
-    composed = subst (Leaves (s .chosen) after r) is (s .composed);
-  }
+  output-as x is h =
+      subst
+      (λ (Q : Run Problem).
+      Composed subgraphRoom
+      (written (λ g. subgraphText g x) (andThen Q (λ P. andThen (solveProblem (P .graph) (P .bound)) (λ u. has (P .graph))))) before after r)
+      is h
 
-  read-refused : {source : Source} {fault : Fault} {place : ℕ} → ends source fault place ≡ readProblem sheet limits
-      → Composed (refusedLine source fault place) after r → SolveComposed sheet limits after r
-  unfolding solveOutput
-  read-refused is h = record { chosen = []; picked = record { optimal = λ Q e. zero-one (cc) }; composed = subst (Leaves [] after r) is h }
+  pub refusal-written : {source : Source} {fault : Fault} {place : ℕ} → ends source fault place ≡ problemOf sheet limits → length before ≡ 16384
+      → Composed lineRoom (refusedLine source fault place) before after r → (r ≤ length after) × SolveComposed sheet limits before after r
+  refusal-written is long h = (
+    composed-inside h,
+    record { chosen = []; picked = λ room. record { optimal = λ Q e. zero-one (cc) }; composed = output-as [] is (line-kept long h) },
+  )
 
-  -- The reader of a problem has answered a.
-  module _ (row column : List ℕ) (weight bound : List ℤ) {a : ProblemAnswer} (says : problemSays a row column weight bound ≡ readProblem sheet limits) where
-    pub refusal-written : {source : Source} {f : Refusal} → a ≡ ProblemAnswer.Refused source f → Composed (refusedLine source (f .fault) (f .place)) after r
-        → (r ≤ length after) × SolveComposed sheet limits after r
-    refusal-written is h = (h .inside, read-refused (sym (ap (λ (b : ProblemAnswer). problemSays b row column weight bound) is) ∙ says) h)
+  solution-picked : {P : Problem} → has P ≡ problemOf sheet limits → Solution (P .graph) (P .bound) before after r
+      → (r ≤ length after) × SolveComposed sheet limits before after r
+  solution-picked {P} is s = (
+    composed-inside (s .composed),
+    record {
+      chosen = s .chosen;
+      picked = λ room. record {
+        optimal = λ Q e.
+            let q : P ≡ Q = cc in
+            subst (λ (R : Problem). solveProblem (R .graph) (R .bound) ≡ has tt → Optimal (R .graph) (R .bound) (s .chosen)) q (s .optimal);
+      };
+      composed = output-as (s .chosen) is (s .composed);
+    },
+  )
 
-    pub solution-written : {s : Shape} {n : ℕ} → a ≡ ProblemAnswer.Read s → n ≡ verticesIn s
-        → Solution (storedGraph s row column weight) (take n bound) after r → (r ≤ length after) × SolveComposed sheet limits after r
-    solution-written {s} is all solution =
-        let S = subst (λ k. Solution (storedGraph s row column weight) (take k bound) after r) all solution in
-        (S .composed .inside, read-solved (sym (ap (λ (b : ProblemAnswer). problemSays b row column weight bound) is) ∙ says) S)
+  pub solution-written : {s : Shape} {row column : List ℕ} {weight bound : List ℤ} {n : ℕ} → Stored sheet limits s row column weight bound → n ≡ verticesIn s
+      → Solution (storedGraph s row column weight) (take n bound) before after r → (r ≤ length after) × SolveComposed sheet limits before after r
+  solution-written {s} {row} {column} {weight} {bound} S all solution =
+      solution-picked (S .same) (subst (λ k. Solution (storedGraph s row column weight) (take k bound) before after r) all solution)
+
+-- The buffer has another length.
+pub nothing-written : (sheet limits : List ℕ) {before after : List ℕ} → length before ≢ 16384 → after ≡ replicate (length before) 0
+    → (0 ≤ length after) × SolveComposed sheet limits before after 0
+nothing-written sheet limits {before} wrong cleared =
+    let no-room = ne-eqb (length before) 16384 wrong in (
+      omega arith,
+      record {
+        chosen = [];
+        picked = λ room. let e = sym no-room ∙ room in zero-one (cc);
+        composed = record {
+          content = cleared ∙ ap (λ (b : Bool). composedBytes b (length before) (solveOutput sheet limits [])) (sym no-room);
+          size = ap (λ (b : Bool). composedLength b (solveOutput sheet limits [])) (sym no-room);
+        };
+      },
+    )

@@ -7,10 +7,10 @@ use Rattle.graph.specs.Graph.{Graph}
 use Rattle.graph.specs.Subgraph.{Optimal}
 use Rattle.layout.specs.SubgraphText.{subgraphText}
 use Rattle.report.specs.Report.{Composed}
-use Rattle.report.specs.Programs.{has, andThen, written, solveProblem}
+use Rattle.report.specs.Programs.{has, andThen, written, solveProblem, subgraphRoom}
 
--- A buffer holds, as its first r bytes, the text of an optimal subgraph, or the line of the solver's refusal.
-pub record Solution (g : Graph) (bound : List ℤ) (buffer : List ℕ) (r : ℕ) : Type 0 where
+-- A buffer is left with the text of an optimal subgraph, or the line of the solver's refusal, and r is its length.
+pub record Solution (g : Graph) (bound : List ℤ) (before after : List ℕ) (r : ℕ) : Type 0 where
   pub chosen : List ℕ
   pub optimal : solveProblem g bound ≡ has tt → Optimal g bound chosen
-  pub composed : Composed (written (λ h. subgraphText h chosen) (andThen (solveProblem g bound) (λ u. has g))) buffer r
+  pub composed : Composed subgraphRoom (written (λ h. subgraphText h chosen) (andThen (solveProblem g bound) (λ u. has g))) before after r

@@ -2,6 +2,7 @@
 use dual::SolveAnswer;
 use graph::MOST_EDGES;
 use graph::MOST_VERTICES;
+use graph::SUBGRAPH_BYTES;
 use graph::Shape;
 use graph::WORKSPACE_NUMBERS;
 use problem_reader::ProblemAnswer;
@@ -15,7 +16,7 @@ ghost use Rattle.graph.specs.Passed.{SizesHold};
 ghost use Rattle.report.specs.Programs.{SolveComposed};
 ghost use Rattle.solve_writer.specs.Solution.{Solution};
 
-// Solves a problem, and writes the text of an optimal subgraph or the solver's refusal at the start of `out`. The result is its length.
+// Solves a problem, and writes the text of an optimal subgraph or the solver's refusal to `out`, 0 after its end. The result is its length.
 fn solve_problem(
     s: Shape,
     row: &[u32],
@@ -26,7 +27,7 @@ fn solve_problem(
 ) -> usize
     requires { ⌜ SizesHold (s .kind) (s .rows) (s .columns) (s .edges) ⌝ }
     requires { ⌜ length (now out) ≡ subgraphBytes ⌝ }
-    ensures { λ r. ⌜ Solution (graphOf s (now (row .entry)) (now (column .entry)) (now (weight .entry))) (now (bound .entry)) (now (out .exit)) r ⌝ }
+    ensures { λ r. ⌜ Solution (graphOf s (now (row .entry)) (now (column .entry)) (now (weight .entry))) (now (bound .entry)) (now (out .entry)) (now (out .exit)) r ⌝ }
 {
     let n = checks::vertex_count(s) as usize;
     let m = s.edges as usize;
@@ -50,12 +51,16 @@ fn solve_problem(
     }
 }
 
-// Writes what `solve` writes of the two texts at the start of `out`. The result is its length.
+// Writes what `solve` writes of the two texts to `out`, 0 after its end. The result is its length; or 0, and `out` is cleared, where `out` has not just
+// 16,384 bytes.
 pub fn solve(sheet: &[u8], limits: &[u8], out: &mut [u8]) -> usize
-    requires { ⌜ length (now out) ≡ subgraphBytes ⌝ }
     ensures inside { λ r. ⌜ r ≤ length (now (out .exit)) ⌝ }
-    ensures { λ r. ⌜ SolveComposed (now (sheet .entry)) (now (limits .entry)) (now (out .exit)) r ⌝ }
+    ensures { λ r. ⌜ SolveComposed (now (sheet .entry)) (now (limits .entry)) (now (out .entry)) (now (out .exit)) r ⌝ }
 {
+    if out.len() != SUBGRAPH_BYTES {
+        lent::clear_bytes(out);
+        return 0;
+    }
     let mut row = [0u32; MOST_EDGES];
     let mut column = [0u32; MOST_EDGES];
     let mut weight = [0i32; MOST_EDGES];

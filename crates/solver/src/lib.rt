@@ -12,6 +12,7 @@ ghost use lib.ListN.{length};
 ghost use Rattle.graph.specs.Graph.{graphOf, verticesIn};
 ghost use Rattle.checks.specs.Checks.{checkSays};
 ghost use Rattle.dual.specs.Solve as dual-solve;
+ghost use Rattle.graph.specs.Refusal.{told};
 ghost use Rattle.dual.specs.Solve.{lentOf, solveSays, Left};
 ghost use Rattle.solver.specs.Solver.{otherLengths};
 
@@ -71,7 +72,7 @@ pub fn solve(
     edge_price: &mut [i32],
     workspace: &mut [i32],
 ) -> SolveAnswer
-    ensures { λ r. ⌜ solveSays r ≡ dual-solve.solve (graphOf s (now (row .entry)) (now (column .entry)) (now (weight .entry))) (now (bound .entry)) (lentOf (length (now (chosen .entry))) (length (now («vertex_price» .entry))) (length (now («edge_price» .entry))) (length (now (workspace .entry)))) ⌝ }
+    ensures { λ r. ⌜ solveSays r ≡ told (dual-solve.solve (graphOf s (now (row .entry)) (now (column .entry)) (now (weight .entry))) (now (bound .entry)) (lentOf (length (now (chosen .entry))) (length (now («vertex_price» .entry))) (length (now («edge_price» .entry))) (length (now (workspace .entry))))) ⌝ }
     ensures { λ _. ⌜ Left (graphOf s (now (row .entry)) (now (column .entry)) (now (weight .entry))) (now (bound .entry)) (lentOf (length (now (chosen .entry))) (length (now («vertex_price» .entry))) (length (now («edge_price» .entry))) (length (now (workspace .entry)))) (now (chosen .exit)) (now («vertex_price» .exit)) (now («edge_price» .exit)) (now (workspace .exit)) ⌝ }
 {
     let outputs = Lengths {

@@ -8,7 +8,7 @@ use lib.ListN.{length, set, length-set}
 use borrow.Author.Tests.{ltb-true}
 use Rattle.graph.specs.declared.Fault.{Fault}
 use Rattle.graph.specs.declared.Refusal.{Refusal}
-use Rattle.graph.specs.Refusal.{yields, refuses, reported}
+use Rattle.graph.specs.Refusal.{Outcome, yields, refuses, told, reported}
 use Rattle.graph.specs.Graph.{Graph}
 use Rattle.layout.specs.declared.SubgraphAnswer.{SubgraphAnswer}
 use Rattle.layout.specs.declared.SubgraphAnswer.the-variants as SubgraphAnswer
@@ -29,7 +29,7 @@ use Rattle.subgraph_reader.specs.declared.Choice.the-variants as Choice
 -- A refusal reports itself, whatever the output holds.
 pub read-refused : (g : Graph) {s out : List ℕ} (x : Refusal) → refuses (x .fault) (x .place) ≡ readText (subgraphLayout g) s →
     SubgraphReading g s (SubgraphAnswer.Refused x) out
-read-refused g x e = record { says = ap (reported (λ y. tt {0})) e; holds = holds-refused (sym e) }
+read-refused g x e = record { says = ap (λ (o : Outcome (List ℕ)). told (reported (λ y. tt {0}) o)) e; holds = holds-refused (sym e) }
 
 -- Of count chosen edges some came.
 pub record MarkTurn (g : Graph) (s : List ℕ) (count : ℕ) (chosen : List ℕ) (c : Cursor) (came : ℕ) : Type 0 where
@@ -43,7 +43,7 @@ module _ {g : Graph} {s : List ℕ} {count : ℕ} {chosen : List ℕ} {c : Curso
     pub turn-done : r ≡ Later.Done → SubgraphReading g s SubgraphAnswer.Read chosen
     turn-done is =
         let e : yields chosen ≡ readText (subgraphLayout g) s = later-yields (subgraphLayout g) (T .walk) refl F is in
-        record { says = ap (reported (λ y. tt {0})) e; holds = holds-yields (sym e) (sym (filled-all (g .edges) 0 chosen (T .long))) }
+        record { says = ap (λ (o : Outcome (List ℕ)). told (reported (λ y. tt {0}) o)) e; holds = holds-yields (sym e) (sym (filled-all (g .edges) 0 chosen (T .long))) }
 
     pub turn-refused : {x : Refusal} → r ≡ Later.Refused x → SubgraphReading g s (SubgraphAnswer.Refused x) chosen
     turn-refused {x} is = read-refused g x (later-refused (subgraphLayout g) (T .walk) refl F is)

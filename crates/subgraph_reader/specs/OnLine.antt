@@ -1,16 +1,11 @@
 -- What the subgraph reader's tests and lines do, and what its answer and its output are while it reads.
 use Prim.Native.Nat.{ℕ, _+_, _<_}
 use mathlib.Core.Path.{_≡_}
-use mathlib.Core.Bool.{_&&_}
-use mathlib.Core.List.{List, [], _∷_, _++_}
-use lib.Dec.{eqb}
+use mathlib.Core.List.{List}
 use lib.ListN.{set, replicate}
-use Rattle.graph.specs.declared.Fault.the-variants.{TextLength, LentLength}
-use Rattle.graph.specs.Refusal.{Test, once, reported}
+use Rattle.graph.specs.Refusal.{told, reported}
 use Rattle.graph.specs.Graph.{Graph}
-use Rattle.graph.specs.Tests.{graphLengths, graphTests}
 use Rattle.layout.specs.declared.SubgraphAnswer.{SubgraphAnswer}
-use Rattle.layout.specs.Text.{textFits}
 use Rattle.layout.specs.Lines.{Step, goes, stops, readText}
 use Rattle.layout.specs.SubgraphText.{Marked, subgraphLayout}
 use Rattle.layout.specs.Answers.{subgraphSays}
@@ -19,11 +14,6 @@ use Rattle.subgraph_reader.specs.declared.ChosenLine.{ChosenLine}
 use Rattle.subgraph_reader.specs.declared.ChosenLine.the-variants as ChosenLine
 use Rattle.subgraph_reader.specs.declared.Choice.{Choice}
 use Rattle.subgraph_reader.specs.declared.Choice.the-variants as Choice
-
--- The tests that are made before the text is read: the lengths (9), where the output has n marks, the graph's numbers (4, 6, 7, 8), and the text's
--- length (1).
-abbrev pub readerTests : Graph → ℕ → List ℕ → List Test
-readerTests g n text = (once LentLength (graphLengths g && eqb n (g .edges)) ∷ graphTests g) ++ (once TextLength (textFits text) ∷ [])
 
 -- What has been read when, of a number of chosen edges, some came, and the marks are these.
 abbrev pub soFar : ℕ → ℕ → List ℕ → Marked
@@ -49,5 +39,5 @@ ChoiceInside m (Choice.Refused f) = Unit {0}
 
 -- The answer r is what reading the text s of a subgraph of g yields, and the output holds it.
 pub record SubgraphReading (g : Graph) (s : List ℕ) (r : SubgraphAnswer) (out : List ℕ) : Type 0 where
-  pub says : subgraphSays r ≡ reported (λ x. tt) (readText (subgraphLayout g) s)
+  pub says : subgraphSays r ≡ told (reported (λ x. tt) (readText (subgraphLayout g) s))
   pub holds : Holds (g .edges) 0 (λ x. x) (readText (subgraphLayout g) s) out

@@ -18,16 +18,16 @@ ghost use mathlib.Core.Bool.{not, _&&_};
 ghost use mathlib.Core.List.{[]};
 ghost use lib.Dec.{eqb};
 ghost use lib.ListN.{length, getD, replicate};
-ghost use Rattle.graph.specs.Refusal.{yields, lowest, passing, reported, output};
+ghost use Rattle.graph.specs.Refusal.{yields, told, lowest, passing, reported, output};
 ghost use Rattle.graph.specs.Graph.{graphOf};
 ghost use Rattle.checks.specs.Checks.{lowestSays, checkSays};
 ghost use Rattle.layout.specs.Text.{words, natural, twoWords, threeWords};
 ghost use Rattle.layout.specs.Lines.{reading};
 ghost use Rattle.layout.specs.GraphText.{noEdges};
-ghost use Rattle.layout.specs.SubgraphText.{sameKind, subgraphSizes, subgraphEdge, subgraphLayout, readSubgraph};
+ghost use Rattle.layout.specs.SubgraphText.{sameKind, subgraphSizes, subgraphEdge, subgraphLayout, readSubgraph, subgraphReaderTests};
 ghost use Rattle.layout.specs.Answers.{subgraphSays};
 ghost use Rattle.lines.specs.Walk.{Walk};
-ghost use Rattle.subgraph_reader.specs.OnLine.{readerTests, soFar, chosenSays, choiceSays, ChoiceInside, SubgraphReading};
+ghost use Rattle.subgraph_reader.specs.OnLine.{soFar, chosenSays, choiceSays, ChoiceInside, SubgraphReading};
 
 // The tests before the text is read. `n` is the length of the output.
 fn check_inputs(
@@ -38,7 +38,7 @@ fn check_inputs(
     weight: &[i32],
     n: usize,
 ) -> Check
-    ensures { λ r. ⌜ checkSays r ≡ passing (readerTests (graphOf s (now (row .entry)) (now (column .entry)) (now (weight .entry))) n (now (text .entry))) (yields tt) ⌝ }
+    ensures { λ r. ⌜ checkSays r ≡ passing (subgraphReaderTests (graphOf s (now (row .entry)) (now (column .entry)) (now (weight .entry))) n (now (text .entry))) (yields tt) ⌝ }
 {
     match lent::check_lent(s, row, column, weight, n == s.edges as usize) {
         Check::Refused(r) => Check::Refused(r),
@@ -221,7 +221,7 @@ pub fn read_subgraph(
     weight: &[i32],
     chosen: &mut [u8],
 ) -> SubgraphAnswer
-    ensures answer { λ r. ⌜ subgraphSays r ≡ reported (λ x. tt) (readSubgraph (graphOf s (now (row .entry)) (now (column .entry)) (now (weight .entry))) (length (now (chosen .entry))) (now (text .entry))) ⌝ }
+    ensures answer { λ r. ⌜ subgraphSays r ≡ told (reported (λ x. tt) (readSubgraph (graphOf s (now (row .entry)) (now (column .entry)) (now (weight .entry))) (length (now (chosen .entry))) (now (text .entry)))) ⌝ }
     ensures marks { λ _. ⌜ now (chosen .exit) ≡ output (length (now (chosen .entry))) 0 (λ x. x) (readSubgraph (graphOf s (now (row .entry)) (now (column .entry)) (now (weight .entry))) (length (now (chosen .entry))) (now (text .entry))) ⌝ }
 {
     lent::clear_bytes(chosen);

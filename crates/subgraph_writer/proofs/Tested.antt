@@ -1,7 +1,7 @@
 -- What the subgraph writer yields, by the first test that refuses.
 use Prim.Native.Nat.{ℕ, suc, _≤_, _<_}
 use mathlib.Core.Path.{_≡_, sym, ap, _∙_}
-use mathlib.Core.Bool.{Bool, true, _&&_, and-assoc}
+use mathlib.Core.Bool.{Bool, _&&_, and-assoc}
 use mathlib.Core.List.{List, [], _∷_, _++_}
 use native.Mathlib.Omega.{arith}
 use lib.Dec.{leb, eqb}
@@ -9,7 +9,7 @@ use lib.ListN.{length}
 use borrow.Author.Tests.{eqb-true}
 use Rattle.graph.specs.declared.Fault.the-variants.{LentLength, Mark}
 use Rattle.graph.specs.declared.Refusal.{Refusal}
-use Rattle.graph.specs.Refusal.{Outcome, yields, refuses, once, lowest, passing, reported, output}
+use Rattle.graph.specs.Refusal.{Outcome, yields, refuses, tells, told, once, lowest, passing, reported, output}
 use Rattle.graph.specs.Graph.{Graph}
 use Rattle.graph.specs.Subgraph.{markAt}
 use Rattle.graph.specs.Tests.{graphLengths, graphTests, markTest}
@@ -23,10 +23,9 @@ use Rattle.graph.proofs.Ranges.{both}
 use Rattle.checks.proofs.Refusals.{checked-passed, checked-refused}
 use Rattle.checks.proofs.Scan.{says}
 use Rattle.lent.proofs.Lengths.{lent-passed}
-use Rattle.layout.specs.SubgraphText.{subgraphText, writeSubgraph}
+use Rattle.layout.specs.SubgraphText.{subgraphText, writerTests, writeSubgraph}
 use Rattle.readback.proofs.Accepted.{Accepted, numberTests, writes, accepted}
 use Rattle.writer.specs.Written.{Written}
-use Rattle.subgraph_writer.specs.Tests.{writerTests}
 
 -- That all tests have passed.
 abbrev pub noted : Outcome (Unit {0})
@@ -106,8 +105,8 @@ module _ (g : Graph) (x : List ℕ) (n : ℕ) where
       fits = accepted g x n (subgraphText g x) yielded
 
       module _ {after : List ℕ} {k : ℕ} (written : Written g x after k) where
-        pub answered : yields k ≡ reported length (writeSubgraph g x n)
-        answered = ap yields (written .size) ∙ sym (ap (reported length) yielded)
+        pub answered : tells k ≡ told (reported length (writeSubgraph g x n))
+        answered = ap tells (written .size) ∙ sym (ap (λ (o : Outcome (List ℕ)). told (reported length o)) yielded)
 
         pub filled-in : after ≡ output n 0 (λ t. t) (writeSubgraph g x n)
         filled-in =

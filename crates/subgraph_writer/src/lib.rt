@@ -7,12 +7,11 @@ use graph::Shape;
 use layout::TextAnswer;
 ghost use mathlib.Core.Path.{_≡_};
 ghost use lib.ListN.{length};
-ghost use Rattle.graph.specs.Refusal.{yields, passing, reported, output};
+ghost use Rattle.graph.specs.Refusal.{yields, told, passing, reported, output};
 ghost use Rattle.graph.specs.Graph.{graphOf};
 ghost use Rattle.checks.specs.Checks.{checkSays};
 ghost use Rattle.layout.specs.Answers.{textSays};
-ghost use Rattle.layout.specs.SubgraphText.{writeSubgraph};
-ghost use Rattle.subgraph_writer.specs.Tests.{writerTests};
+ghost use Rattle.layout.specs.SubgraphText.{writerTests, writeSubgraph};
 
 // The tests, in their order: lengths, sizes, ends, weights, equal ends, marks. `out` is the length of the output.
 fn check_marks(
@@ -44,7 +43,7 @@ pub fn write_subgraph(
     chosen: &[u8],
     out: &mut [u8],
 ) -> TextAnswer
-    ensures answer { λ r. ⌜ textSays r ≡ reported length (writeSubgraph (graphOf s (now (row .entry)) (now (column .entry)) (now (weight .entry))) (now (chosen .entry)) (length (now (out .entry)))) ⌝ }
+    ensures answer { λ r. ⌜ textSays r ≡ told (reported length (writeSubgraph (graphOf s (now (row .entry)) (now (column .entry)) (now (weight .entry))) (now (chosen .entry)) (length (now (out .entry))))) ⌝ }
     ensures text { λ _. ⌜ now (out .exit) ≡ output (length (now (out .entry))) 0 (λ t. t) (writeSubgraph (graphOf s (now (row .entry)) (now (column .entry)) (now (weight .entry))) (now (chosen .entry)) (length (now (out .entry)))) ⌝ }
 {
     if let Check::Refused(r) = check_marks(s, row, column, weight, chosen, out.len()) {

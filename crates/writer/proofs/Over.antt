@@ -127,12 +127,12 @@ puts-part d at {xs} p =
 
 -- ---- written over zeros
 
-drop-zeros : (k n : ℕ) → drop {A = ℕ} k (replicate n 0) ≡ replicate (n - k) 0
-drop-zeros zero n = let e : n ≡ n - 0 = omega arith in ap (λ (j : ℕ). replicate j 0) e
-drop-zeros (suc k) zero = let e : 0 ≡ 0 - suc k = omega arith in ap (λ (j : ℕ). replicate j 0) e
-drop-zeros (suc k) (suc n) = let e : n - k ≡ suc n - suc k = omega arith in drop-zeros k n ∙ ap (λ (j : ℕ). replicate j 0) e
+pub drop-zeros : {N : Type 0} (z : N) (k n : ℕ) → drop k (replicate n z) ≡ replicate (n - k) z
+drop-zeros z zero n = let e : n ≡ n - 0 = omega arith in ap (λ (j : ℕ). replicate j z) e
+drop-zeros z (suc k) zero = let e : 0 ≡ 0 - suc k = omega arith in ap (λ (j : ℕ). replicate j z) e
+drop-zeros z (suc k) (suc n) = let e : n - k ≡ suc n - suc k = omega arith in drop-zeros z k n ∙ ap (λ (j : ℕ). replicate j z) e
 
 -- Written at the start of n zeros, the text has zeros after its end.
 pub over-zeros : (n : ℕ) (xs : List ℕ) → over (replicate n 0) 0 xs ≡ xs ++ replicate (n - length xs) 0
 unfolding over
-over-zeros n xs = ap (λ (l : List ℕ). xs ++ l) (ap (λ (k : ℕ). drop k (replicate n 0)) (zero-add (length xs)) ∙ drop-zeros (length xs) n)
+over-zeros n xs = ap (λ (l : List ℕ). xs ++ l) (ap (λ (k : ℕ). drop k (replicate n 0)) (zero-add (length xs)) ∙ drop-zeros 0 (length xs) n)

@@ -28,7 +28,7 @@ abbrev count : tie.After-vertex-count → ℕ
 count c = c .vertex-count .result + start1 c .args .s .edges
 
 fits : (c : tie.After-vertex-count) → count c ≤ 1152
-fits c = omega (arith, start1 c .pre .0, c .vertex-count .ensures)
+fits c = omega (arith, start1 c .pre, c .vertex-count .ensures)
 
 abbrev counted : tie.After-read-numbers → tie.After-vertex-count
 counted c = c .before .before .before
@@ -49,7 +49,7 @@ mark-prices-requires : tie.Need-mark-prices-requires
 mark-prices-requires c κs =
     let v = c .before .before .before .before .before .before .before .before .vertex-count in
     let s = c .before .before .before .before .before .before .before .before .before .before .before .before .before .before in
-    (vertices-priced (v .result) (s .args .s .edges) (v .ensures) (back (c .before .before .before .before .before) .long), s .pre .1)
+    vertices-priced (v .result) (s .args .s .edges) (v .ensures) (back (c .before .before .before .before .before) .long)
 
 returns : tie.Need-returns
 returns c =

@@ -2,7 +2,7 @@
 use denote.Ref.{now}
 use Rattle.graph.specs.Graph.{graphOf}
 use Rattle.problem_reader.proofs.Lent.{first-long}
-use Rattle.mark_writer.proofs.Stages.{same-line, prices-measured}
+use Rattle.mark_writer.proofs.Stages.{prices-composed}
 use borrow.Author.Needs.{needs}
 use Rattle.mark_writer.proofs.mark_prices.Statement.{statement}
 use Rattle.mark_writer.proofs.mark_prices.Tie as tie
@@ -14,10 +14,8 @@ returns : tie.Need-returns
 returns c =
     let a = c .before .before .before .before .before .before .before .before .before .before .before .before .before .before .args in
     let v = c .before .before .before .before .before .before .before .before .before .vertex-count in
-    same-line
-    (prices-measured (graphOf (a .s) (now (a .row)) (now (a .column)) (now (a .weight))) (now (a .bound)) (now (a .chosen)) (now (a .price))
-    (v .result) (v .ensures) (c .before .before .before .before .measure .ensures))
-    (c .before .before .put-measured .ensures)
+    prices-composed (graphOf (a .s) (now (a .row)) (now (a .column)) (now (a .weight))) (now (a .bound)) (now (a .chosen)) (now (a .price))
+    (v .result) (v .ensures) (c .before .before .before .before .measure .ensures) (c .before .before .put-measured .ensures)
 
 pub mark-prices-spec : {M : Type 1} → statement M
 mark-prices-spec =

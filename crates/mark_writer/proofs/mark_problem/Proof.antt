@@ -21,12 +21,12 @@ abbrev start1 : tie.After-read-subgraph → tie.Start
 start1 c = c .before .before .before .before .before .before .before .before
 
 back : (c : tie.After-read-subgraph) → PartBack (start1 c .args .s .edges) zeros (c .read-subgraph .last .1 .1 .1 .1 .1 .0)
-back c = came-back (start1 c .args .s .edges) zeros (start1 c .pre .0 .few) (c .read-subgraph .kept .1 .1 .1 .1 .1 .0)
+back c = came-back (start1 c .args .s .edges) zeros (start1 c .pre .few) (c .read-subgraph .kept .1 .1 .1 .1 .1 .0)
 
 slice-aggregate-read-subgraph : tie.Need-slice-aggregate-read-subgraph
 slice-aggregate-read-subgraph c =
     let s = c .before .before .before .before .before .before .before in
-    first-long (s .args .s .edges) zeros (s .pre .0 .few)
+    first-long (s .args .s .edges) zeros (s .pre .few)
 
 array-share-prefix-chosen : tie.Need-array-share-prefix-chosen
 array-share-prefix-chosen c = back (c .before .before .before) .room
@@ -41,7 +41,7 @@ returns c =
     let d = c .before .before .before .before .before .before .before .before .read-subgraph in
     same-line
     (problem-ends (graph s) (now (s .args .bound)) (now (s .args .plan)) (now (s .args .prices)) (length (take m zeros))
-    (first-long m zeros (s .pre .0 .few)) (d .ensures .0) (c .before .before .before .before .before .refusal .given .1))
+    (first-long m zeros (s .pre .few)) (d .ensures .0) (c .before .before .before .before .before .refusal .given .1))
     (c .before .before .put-refused .ensures)
 
 returns-2 : tie.Need-returns-2
@@ -51,7 +51,7 @@ returns-2 c =
     let r = c .before .before .before .before .before .before .before .before in
     same-line
     (problem-goes (graph s) (now (s .args .bound)) (now (s .args .plan)) (now (s .args .prices)) (length (take m zeros))
-    (first-long m zeros (s .pre .0 .few)) (r .read-subgraph .ensures .0) (c .before .before .before .before .before .enum-told .given .1) (back r .same) (r .read-subgraph .ensures .1))
+    (first-long m zeros (s .pre .few)) (r .read-subgraph .ensures .0) (c .before .before .before .before .before .enum-told .given .1) (back r .same) (r .read-subgraph .ensures .1))
     (c .before .before .mark-plan .ensures)
 
 pub mark-problem-spec : {M : Type 1} → statement M

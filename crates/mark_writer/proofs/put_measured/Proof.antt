@@ -1,6 +1,7 @@
 -- `put_measured` writes the line of the measures or of the refusal that the answer holds.
-use mathlib.Core.Path.{sym, ap}
-use Rattle.dual.specs.declared.MeasureAnswer.{MeasureAnswer}
+use mathlib.Core.Path.{sym, ap, _∙_}
+use Rattle.graph.specs.Refusal.{yields, refuses}
+use Rattle.graph.proofs.Told.{told-same}
 use Rattle.dual.specs.Measure.{measureSays}
 use Rattle.report.specs.declared.Source.the-variants.{Input}
 use Rattle.report.specs.Programs.{cameFrom}
@@ -10,12 +11,15 @@ use Rattle.mark_writer.proofs.put_measured.Statement.{statement}
 use Rattle.mark_writer.proofs.put_measured.Tie as tie
 
 returns : tie.Need-returns
-returns c =
-    same-line (ap (λ (a : MeasureAnswer). cameFrom Input (measureSays a)) (sym (c .before .before .before .before .before .answer .given .1))) (c .before .before .put-measures .ensures)
+returns c o says =
+    let m = c .before .before .before .before .before .answer .given in
+    same-line (ap (cameFrom Input) (told-same (yields (m .0 .0)) o (sym (ap measureSays (m .1)) ∙ says))) (c .before .before .put-measures .ensures)
 
 returns-2 : tie.Need-returns-2
-returns-2 c =
-    same-line (ap (λ (a : MeasureAnswer). cameFrom Input (measureSays a)) (sym (c .before .before .before .before .before .answer2 .given .1))) (c .before .before .put-refused .ensures)
+returns-2 c o says =
+    let r = c .before .before .before .before .before .answer2 .given in
+    same-line (ap (cameFrom Input) (told-same (refuses (r .0 .0 .fault) (r .0 .0 .place)) o (sym (ap measureSays (r .1)) ∙ says)))
+    (c .before .before .put-refused .ensures)
 
 pub put-measured-spec : {M : Type 1} → statement M
 put-measured-spec =

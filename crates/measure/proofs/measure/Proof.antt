@@ -3,7 +3,7 @@ use mathlib.Core.Path.{_≡_, sym, ap, _∙_}
 use mathlib.Core.List.{[], _∷_}
 use native.Mathlib.Numerals.{add-one}
 use Rattle.graph.specs.declared.Fault.the-variants.{OddSet, Uncovered}
-use Rattle.graph.specs.Refusal.{Outcome, Test, yields, refuses, lowest, passing}
+use Rattle.graph.specs.Refusal.{Outcome, Test, yields, refuses, told, lowest, passing}
 use Rattle.graph.specs.Graph.{Graph, graphOf}
 use Rattle.dual.specs.declared.Measures.{Measures}
 use Rattle.dual.specs.Prices.{Prices, pricesOf}
@@ -125,8 +125,9 @@ returns c =
     let at-others-match = c .before .before .before .before in
     let s = at-others-match .before .before .before .before .before .before in
     let r = c .before .before .before .check-subgraph in
-    first-refused (graph s) (s .args .bound .now) (s .args .chosen .now) (prices s) (r .result) (at-others-match .others-match .ensures) (r .ensures)
-    (c .before .subgraph .given .1)
+    ap told
+    (first-refused (graph s) (s .args .bound .now) (s .args .chosen .now) (prices s) (r .result) (at-others-match .others-match .ensures) (r .ensures)
+    (c .before .subgraph .given .1))
 
 degrees-requires : tie.Need-degrees-requires
 degrees-requires c κs = let h = first-shown (c) in (h .passed .sound, h .marks)
@@ -146,9 +147,10 @@ returns-2 c =
     let at-others-match = at-check-subgraph .before in
     let s = at-others-match .before .before .before .before .before .before in
     let r = at-check-subgraph .check-subgraph in
-    second-refused (graph s) (s .args .bound .now) (s .args .chosen .now) (prices s) (r .result) (at-others-match .others-match .ensures) (r .ensures)
+    ap told
+    (second-refused (graph s) (s .args .bound .now) (s .args .chosen .now) (prices s) (r .result) (at-others-match .others-match .ensures) (r .ensures)
     (at-enum-told .enum-told .given .1)
-    (at-check-prices .check-prices .result) (prices-say at-check-prices) (c .before .prices .given .1)
+    (at-check-prices .check-prices .result) (prices-say at-check-prices) (c .before .prices .given .1))
 
 load-table-requires : tie.Need-load-table-requires
 load-table-requires c κs =
@@ -175,8 +177,9 @@ returns-3 c =
     let at-enum-told2 = at-lowest-set .before .before in
     let s = at-enum-told2 .before .before .before .before .before .before .before .before .before .before .before .before .before in
     ap measureSays (c .refused-at .ensures)
-    ∙ ap (refuses OddSet) (add-one _)
-    ∙ decide at-enum-told2 (first-refuses (oddSets s) (covers s) (answer s) (set-say at-lowest-set (k .given .1)))
+    ∙ ap told
+    (ap (refuses OddSet) (add-one _)
+    ∙ decide at-enum-told2 (first-refuses (oddSets s) (covers s) (answer s) (set-say at-lowest-set (k .given .1))))
 
 cover-table-requires : tie.Need-cover-table-requires
 cover-table-requires c κs =
@@ -206,10 +209,11 @@ returns-4 c =
     let at-enum-told2 = at-lowest-set .before .before in
     let s = at-enum-told2 .before .before .before .before .before .before .before .before .before .before .before .before .before in
     ap measureSays (c .refused-at2 .ensures)
-    ∙ ap (refuses Uncovered) (add-one _)
+    ∙ ap told
+    (ap (refuses Uncovered) (add-one _)
     ∙ decide at-enum-told2
     (second-refuses (oddSets s) (covers s) (answer s) (set-say at-lowest-set (at-enum-told3 .enum-told3 .given .1))
-    (uncovered-say at-lowest-uncovered (e .given .1)))
+    (uncovered-say at-lowest-uncovered (e .given .1))))
 
 covered-table-requires : tie.Need-covered-table-requires
 covered-table-requires c κs =
@@ -266,14 +270,15 @@ returns-5 c =
     let load = at-load-table .load-table in
     let covered = c .before .covered-table in
     let cover = at-cover-table .cover-table in
-    ap yields
+    ap told
+    (ap yields
     (c .numbers .ensures
     ∙ measures-by (graph s) (s .args .bound .now) (s .args .chosen .now) (prices s) (d .result) (load .result) (covered .result) (cover .result)
     (h .passed .sound .sizes .order) (l .few)
     (d .ensures) (load .ensures) (covered .ensures) (cover .ensures))
     ∙ decide at-enum-told2
     (none-refuses (oddSets s) (covers s) (answer s) (set-say at-lowest-set (at-enum-told3 .enum-told3 .given .1))
-    (uncovered-say at-lowest-uncovered (enum-told4 .given .1)))
+    (uncovered-say at-lowest-uncovered (enum-told4 .given .1))))
 
 pub measure-spec : {M : Type 1} → statement M
 measure-spec =

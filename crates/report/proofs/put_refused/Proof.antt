@@ -1,40 +1,26 @@
--- `put_refused` writes six parts, then byte 10.
-use lib.ListN.{length-set}
-use mathlib.Core.Path.{_∙_}
+-- `put_refused` clears the buffer, and writes the line of a refusal where it has room.
 use borrow.Author.Needs.{needs}
-use Rattle.report.proofs.Parts.{refused-composed}
+use denote.Ref.{now}
+use Rattle.report.specs.Report.{refusedLine}
+use Rattle.report.proofs.Parts.{no-room, line-composed}
 use Rattle.report.proofs.put_refused.Statement.{statement}
 use Rattle.report.proofs.put_refused.Tie as tie
 
-same-length : tie.Need-same-length
-same-length c =
-    let file = c .before .before in
-    let inside = file .before .before .before .before in
-    let place = inside .before .before .before .before .before in
-    let at = place .before .before .before .before in
-    let number = at .before .before .before .before .before in
-    let first = number .before .before .before .before in
-    simp length-set
-    (file .put-source .kept .0 ∙ inside .put-bytes3 .kept .0 ∙ place .put-natural2 .kept .0 ∙ at .put-bytes2 .kept .0 ∙ number .put-natural .kept .0
-    ∙ first .put-bytes .kept .0)
-
 returns : tie.Need-returns
 returns c =
-    let file = c .before .before in
-    let inside = file .before .before .before .before in
-    let place = inside .before .before .before .before .before in
-    let at = place .before .before .before .before in
-    let number = at .before .before .before .before .before in
-    let first = number .before .before .before .before in
-    let numbered = first .before .before .before in
-    let s = numbered .before .before in
-    refused-composed (s .args .source) (s .args .refusal .fault) (s .args .refusal .place) (numbered .number .result) (s .pre) (numbered .number .ensures)
-    (first .put-bytes .ensures)
-    (number .put-natural .ensures)
-    (at .put-bytes2 .ensures)
-    (place .put-natural2 .ensures)
-    (inside .put-bytes3 .ensures)
-    (file .put-source .ensures)
+    let at-clear-bytes = c .before .before .before in
+    let s = at-clear-bytes .before .before .before in
+    no-room (refusedLine (s .args .source) (s .args .refusal .fault) (s .args .refusal .place)) (now (s .args .out))
+    (at-clear-bytes .clear-bytes .ensures) (c .if1 .taken)
+
+returns-2 : tie.Need-returns-2
+returns-2 c =
+    let put-refusal = c .before .before .put-refusal in
+    let at-if1 = c .before .before .before .before in
+    let at-clear-bytes = at-if1 .before .before .before in
+    let s = at-clear-bytes .before .before .before in
+    line-composed (refusedLine (s .args .source) (s .args .refusal .fault) (s .args .refusal .place)) (now (s .args .out))
+    (at-clear-bytes .clear-bytes .ensures) (at-if1 .if1 .left) (put-refusal .ensures)
 
 pub put-refused-spec : {M : Type 1} → statement M
 put-refused-spec =
@@ -42,16 +28,7 @@ put-refused-spec =
     (tie.spec
     (λ c κs. search needs)
     (λ c. search needs)
-    (λ c. search needs)
-    (λ c κs. search needs)
-    (λ c κs. search needs)
-    (λ c. search needs)
-    (λ c κs. search needs)
+    returns
     (λ c κs. search needs)
     (λ c. search needs)
-    (λ c κs. search needs)
-    (λ c κs. search needs)
-    (λ c. search needs)
-    (λ c. search needs)
-    same-length
-    returns)
+    returns-2)

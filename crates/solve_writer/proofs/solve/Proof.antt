@@ -1,19 +1,40 @@
 -- `solve` writes the reader's refusal, or what solving the problem leaves that the four arrays hold.
 use native.Mathlib.Omega.{arith}
-use lib.ListN.{length-take}
-use Rattle.problem_reader.proofs.Lent.{Stored, stored-in}
-use Rattle.solve_writer.proofs.Answers.{refusal-written, solution-written}
+use mathlib.Core.Path.{_≡_}
+use denote.Ref.{now}
+use lib.ListN.{length, length-take}
+use Rattle.problem_reader.proofs.Lent.{Stored, problem-ended, stored-in}
+use Rattle.solve_writer.proofs.Answers.{refusal-written, solution-written, nothing-written}
 use borrow.Author.Needs.{needs}
 use Rattle.solve_writer.proofs.solve.Statement.{statement}
 use Rattle.solve_writer.proofs.solve.Tie as tie
 
+-- The start, when the reader of a problem has answered, and that the buffer has its length.
+abbrev begun : tie.After-read-problem → tie.Start
+begun c = c .before .before .before .before .before .before .before .before .before
+
+long : (c : tie.After-read-problem) → length (now (begun c .args .out)) ≡ 16384
+long c = c .before .before .before .before .before .if1 .left
+
 -- The problem that was read stands in the four arrays.
 stored : (c : tie.After-s) →
-    let d = c .before .before .before .before .before .before .read-problem in
-    Stored (c .s .given .0 .0) (d .last .1 .1 .0) (d .last .1 .1 .1 .0) (d .last .1 .1 .1 .1 .0) (d .last .1 .1 .1 .1 .1 .0)
+    let at-read-problem = c .before .before .before .before .before .before in
+    let d = at-read-problem .read-problem in
+    let a = begun at-read-problem .args in
+    Stored (now (a .sheet)) (now (a .limits)) (c .s .given .0 .0) (d .last .1 .1 .0) (d .last .1 .1 .1 .0) (d .last .1 .1 .1 .1 .0) (d .last .1 .1 .1 .1 .1 .0)
 stored c =
-    let d = c .before .before .before .before .before .before .read-problem in
-    stored-in (d .ensures .1) (c .s .given .1) (d .kept .1 .1 .0) (d .kept .1 .1 .1 .0) (d .kept .1 .1 .1 .1 .0) (d .kept .1 .1 .1 .1 .1 .0)
+    let at-read-problem = c .before .before .before .before .before .before in
+    let d = at-read-problem .read-problem in
+    let a = begun at-read-problem .args in
+    stored-in (now (a .sheet)) (now (a .limits)) (d .ensures .0) (d .ensures .1) (c .s .given .1)
+    (d .kept .1 .1 .0) (d .kept .1 .1 .1 .0) (d .kept .1 .1 .1 .1 .0) (d .kept .1 .1 .1 .1 .1 .0)
+
+returns : tie.Need-returns
+returns c =
+    let clear-bytes = c .before .before .clear-bytes in
+    let at-if1 = c .before .before .before .before in
+    let a = at-if1 .before .before .before .before .args in
+    nothing-written (now (a .sheet)) (now (a .limits)) (at-if1 .if1 .taken) (clear-bytes .ensures)
 
 array-share-prefix-row : tie.Need-array-share-prefix-row
 array-share-prefix-row c = omega (arith, stored (c .before .before .before))
@@ -31,10 +52,15 @@ array-share-prefix-weight : tie.Need-array-share-prefix-weight
 array-share-prefix-weight c = omega (arith, stored (c .before .before .before .before .before))
 
 slice-aggregate-solve-problem-3 : tie.Need-slice-aggregate-solve-problem-3
-slice-aggregate-solve-problem-3 c = simp length-take (omega (arith, stored (c .before .before .before .before .before .before)))
+slice-aggregate-solve-problem-3 c =
+    let at-s = c .before .before .before .before .before .before in
+    simp length-take (omega (arith, stored at-s))
 
 array-share-prefix-bound : tie.Need-array-share-prefix-bound
-array-share-prefix-bound c = omega (arith, stored (c .before .before .before .before .before .before), c .before .before .before .before .vertex-count .ensures)
+array-share-prefix-bound c =
+    let at-vertex-count = c .before .before .before .before in
+    let at-s = at-vertex-count .before .before in
+    omega (arith, stored at-s, at-vertex-count .vertex-count .ensures)
 
 slice-aggregate-solve-problem-4 : tie.Need-slice-aggregate-solve-problem-4
 slice-aggregate-solve-problem-4 c =
@@ -45,28 +71,33 @@ slice-aggregate-solve-problem-4 c =
 solve-problem-requires : tie.Need-solve-problem-requires
 solve-problem-requires c κs =
     let at-s = c .before .before .before .before .before .before .before .before in
-    let pre = at-s .before .before .before .before .before .before .before .before .before .before .before .before .before .before .pre in
-    (stored at-s .sizes, pre)
-
-returns : tie.Need-returns
-returns c =
-    let d = c .before .before .before .before .before .before .before .before .before .before .before .read-problem in
-    refusal-written (d .last .1 .1 .0) (d .last .1 .1 .1 .0) (d .last .1 .1 .1 .1 .0) (d .last .1 .1 .1 .1 .1 .0) (d .ensures .0)
-    (c .before .before .before .before .before .source .given .1) (c .before .before .put-refused .ensures)
+    (stored at-s .sizes, long (at-s .before .before .before .before .before .before))
 
 returns-2 : tie.Need-returns-2
 returns-2 c =
+    let put-refused = c .before .before .put-refused in
+    let at-source = c .before .before .before .before .before in
+    let at-read-problem = at-source .before .before .before .before .before .before in
+    let a = begun at-read-problem .args in
+    refusal-written (now (a .sheet)) (now (a .limits))
+    (problem-ended (now (a .sheet)) (now (a .limits)) (at-read-problem .read-problem .ensures .0) (at-source .source .given .1))
+    (long at-read-problem) (put-refused .ensures)
+
+returns-3 : tie.Need-returns-3
+returns-3 c =
     let solve-problem = c .before .before .solve-problem in
     let at-vertex-count = c .before .before .before .before .before .before .before .before .before in
     let at-s = at-vertex-count .before .before in
-    let d = at-s .before .before .before .before .before .before .read-problem in
-    solution-written (d .last .1 .1 .0) (d .last .1 .1 .1 .0) (d .last .1 .1 .1 .1 .0) (d .last .1 .1 .1 .1 .1 .0) (d .ensures .0)
-    (at-s .s .given .1) (at-vertex-count .vertex-count .ensures) (solve-problem .ensures)
+    let a = at-s .before .before .before .before .before .before .before .before .before .before .before .before .before .before .before .args in
+    solution-written (now (a .sheet)) (now (a .limits)) (stored at-s) (at-vertex-count .vertex-count .ensures) (solve-problem .ensures)
 
 pub solve-spec : {M : Type 1} → statement M
 solve-spec =
     tie.close
     (tie.spec
+    (λ c κs. search needs)
+    (λ c. search needs)
+    returns
     (λ c. search needs)
     (λ c. search needs)
     (λ c. search needs)
@@ -87,6 +118,6 @@ solve-spec =
     slice-aggregate-solve-problem-4
     solve-problem-requires
     (λ c. search needs)
-    returns
+    returns-2
     (λ c. search needs)
-    returns-2)
+    returns-3)

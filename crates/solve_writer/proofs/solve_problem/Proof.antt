@@ -63,7 +63,7 @@ returns : tie.Need-returns
 returns c =
     let r = c .before .before .before .before .before .before .before .before .before .before .before in
     let s = begun r in
-    refusal-left (graph s) (now (s .args .bound)) (lent r) (r .solve .ensures .0) (c .before .before .before .before .before .refusal .given .1) (c .before .before .put-refused .ensures)
+    refusal-left (graph s) (now (s .args .bound)) (lent r) (r .solve .ensures .0) (c .before .before .before .before .before .refusal .given .1) (s .pre .1) (c .before .before .put-refused .ensures)
 
 returns-2 : tie.Need-returns-2
 returns-2 c =
@@ -71,7 +71,7 @@ returns-2 c =
     let s = begun r in
     let done = r .solve .ensures in
     part-written (graph s) (now (s .args .bound)) (lent r) (done .0) (c .before .before .before .before .before .enum-told .given .1) (done .1) (drop (s .args .s .edges) noMarks)
-    (c .before .before .put-subgraph .ensures (now (s .args .weight)))
+    (s .pre .1) (c .before .before .put-subgraph .ensures (now (s .args .weight)))
 
 pub solve-problem-spec : {M : Type 1} → statement M
 solve-problem-spec =

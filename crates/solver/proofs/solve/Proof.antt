@@ -1,6 +1,7 @@
 -- `solver::solve` meets its contract: after a refusal all is 0, and what is accepted can be given to the method.
 use mathlib.Core.Path.{sym, ap, _∙_}
 use lib.ListN.{length, replicate}
+use Rattle.graph.specs.Refusal.{told}
 use Rattle.graph.specs.Graph.{Graph, graphOf}
 use Rattle.checks.specs.Checks.{checkSays}
 use Rattle.dual.specs.Solve.{Lent, lentOf}
@@ -26,7 +27,7 @@ returns c =
     let at-tested = at-clear-bytes .before .before in
     let start = at-tested .before .before .before .before in
     let says = sym (ap checkSays (c .before .check .given .1)) ∙ at-tested .tested .ensures in (
-      says,
+      ap told says,
       left-zero (lent start) says (at-clear-bytes .clear-bytes .ensures) (at-clear-integers .clear-integers .ensures)
           (at-clear-integers2 .clear-integers2 .ensures) (at-clear-integers3 .clear-integers3 .ensures),
     )
@@ -63,7 +64,7 @@ returns-2 c =
     let start = at-tested .before .before .before .before in
     let says = sym (at-tested .tested .ensures) ∙ ap checkSays (at-enum-told .enum-told .given .1) in
     let kept = at-optimise .optimise .kept .1 .1 .1 .1 .1 in (
-      sym says,
+      ap told (sym says),
       left-solved (lent start) says (at-optimise .optimise .ensures)
           (kept .0 ∙ at-clear-bytes .clear-bytes .kept .0)
           (kept .1 .0 ∙ at-clear-integers .clear-integers .kept .0)

@@ -1,8 +1,10 @@
 -- After a refusal `out` is cleared; otherwise the text is written.
+use Prim.Native.Nat.{ℕ}
 use mathlib.Core.Path.{sym, ap, _∙_}
+use mathlib.Core.List.{List}
 use lib.ListN.{length}
 use denote.Ref.{now}
-use Rattle.graph.specs.Refusal.{reported, output}
+use Rattle.graph.specs.Refusal.{Outcome, told, reported, output}
 use Rattle.graph.specs.Graph.{Graph, graphOf}
 use Rattle.subgraph_writer.proofs.Tested.{refused, size, fits, answered, filled-in}
 use borrow.Author.Needs.{needs}
@@ -21,7 +23,7 @@ returns c =
     let s = at-check-marks .before .before .before .before .before in
     let n = length (now (s .args .out)) in
     let w = refused (graph s) (now (s .args .chosen)) n (at-check-marks .check-marks .ensures) (at-r .r .given .1) in
-    (sym (ap (reported length) w), clear-bytes .ensures ∙ sym (ap (output n 0 (λ t. t)) w))
+    (sym (ap (λ (o : Outcome (List ℕ)). told (reported length o)) w), clear-bytes .ensures ∙ sym (ap (output n 0 (λ t. t)) w))
 
 put-subgraph-requires : tie.Need-put-subgraph-requires
 put-subgraph-requires c κs =

@@ -1,0 +1,141 @@
+-- The promises: each sentence of the three demands, as a statement over what the calls yield and leave, in the order of the demands.
+-- What a call's contract says, that its answer and all that is lent to it are what these definitions yield, is proved of its code, and so is that
+-- it touches memory only within what is lent, and ends.
+use Prim.Native.Nat.{ℕ, _*_, _≤_, _<_}
+use mathlib.Core.Path.{_≡_}
+use mathlib.Core.Logic.{_⊎_, _↔_}
+use mathlib.Core.Bool.{true}
+use mathlib.Core.List.{List, [], _∷_}
+use lib.IntN.{ℤ, pos}
+use lib.ListN.{length, replicate}
+use lib.Signed.{_≤ℤ_}
+use Rattle.graph.specs.declared.Fault.{Fault}
+use Rattle.graph.specs.declared.Fault.the-variants.{LentLength}
+use Rattle.graph.specs.Limits.{mostEdges, mostNumbers, mostSets, vertexWords, edgeWords}
+use Rattle.graph.specs.Refusal.{numberOf, Outcome, yields, told, refusedWith, Test, once, lowest, passing, output}
+use Rattle.graph.specs.Graph.{Graph, vertices, weightAt, upTo, priceInRange}
+use Rattle.graph.specs.Subgraph.{Feasible, Optimal, weightOf, lacks}
+use Rattle.graph.specs.Tests.{graphLengths, graphTests, boundTest}
+use Rattle.layout.specs.declared.Numbers.{Numbers}
+use Rattle.layout.specs.Text.{textFits}
+use Rattle.layout.specs.Lines.{readText}
+use Rattle.layout.specs.GraphText.{graphLayout, graphReaderTests, readGraph}
+use Rattle.layout.specs.NumberText.{numberLayout, numberReaderTests, readNumbers}
+use Rattle.layout.specs.SubgraphText.{subgraphLayout, subgraphReaderTests, readSubgraph, writerTests, writeSubgraph}
+use Rattle.dual.specs.declared.Measures.{Measures}
+use Rattle.dual.specs.Prices.{Prices, vertexPrice, edgePrice, setPrice}
+use Rattle.dual.specs.Sets.{keepsRules}
+use Rattle.dual.specs.Gap.{coverOf}
+use Rattle.dual.specs.Measure.{measure, measureTests}
+use Rattle.dual.specs.Solve.{Lent, solverTests, solve, withoutSets, SolverPrice, Zero, Left}
+use Rattle.duality.specs.Meaning.{Meaning}
+
+-- ---- Demand 1
+
+-- "Each call .. gives a listed refusal or a result": what a call yields is a result or a refusal, and each refusal has a number of the table.
+pub record Listed : Type 0 where
+  pub least : (f : Fault) → 1 ≤ numberOf f
+  pub most : (f : Fault) → numberOf f ≤ 17
+
+-- A call refuses with this number of the table at this place. Its answer says the same, by its contract (layout, specs/Answers.antt, and dual).
+abbrev pub Refuses : {A : Type 0} → Outcome A → ℕ → ℕ → Type 0
+Refuses o number place = told o ≡ refusedWith number place
+
+-- "After a refusal every lent output and workspace number is 0": whatever a call yields, its outputs hold only 0 after a refusal, and so do the
+-- solver's, and its workspace.
+pub record ZeroAfterRefusal : Type 1 where
+  pub outputs : {A N : Type 0} (n : ℕ) (z : N) (f : A → List N) (W : Outcome A) (i p : ℕ) → Refuses W i p → output n z f W ≡ replicate n z
+  pub solver : (g : Graph) (bound : List ℤ) (lent : Lent) (x : List ℕ) (vertex edge workspace : List ℤ) → Left g bound lent x vertex edge workspace →
+      (i p : ℕ) → Refuses (solve g bound lent) i p → Zero lent x vertex edge × (workspace ≡ replicate (lent .workspace) (pos 0))
+
+-- ---- Demand 2
+
+-- The tests ts pass, or the first that refuses does so with this number at this place: each is made over all items before the next, and the lowest
+-- place is told.
+abbrev pub Passing : List Test → Type 0
+Passing ts = passing ts (yields tt) ≡ yields (tt {0})
+
+abbrev pub Refusing : List Test → ℕ → ℕ → Type 0
+Refusing ts number place = Refuses (passing ts (yields (tt {0}))) number place
+
+-- "Texts are read as the Matrix Market layout defines": where what is lent is as long as it should be, and a text is not too long, it is read line by
+-- line from the top, as its layout says.
+pub record ReadAsDefined : Type 0 where
+  pub graph : (text : List ℕ) → textFits text ≡ true → readGraph mostEdges mostEdges mostEdges text ≡ readText graphLayout text
+  pub numbers : (what : Numbers) (count : ℕ) (text : List ℕ) → upTo mostNumbers count ≡ true → textFits text ≡ true →
+      readNumbers what count count text ≡ readText (numberLayout what count) text
+  pub subgraph : (g : Graph) (text : List ℕ) → Passing (once LentLength (graphLengths g) ∷ graphTests g) → textFits text ≡ true →
+      readSubgraph g (g .edges) text ≡ readText (subgraphLayout g) text
+
+-- "A written plan reads back as the same plan": what the writer yields reads back as the marks that were written, so no two subgraphs are written alike.
+pub record ReadsBack : Type 0 where
+  pub back : (g : Graph) (x : List ℕ) (n : ℕ) (text : List ℕ) → writeSubgraph g x n ≡ yields text → readSubgraph g (length x) text ≡ yields x
+  pub apart : (g : Graph) (x y : List ℕ) (n k : ℕ) (text : List ℕ) → writeSubgraph g x n ≡ yields text → writeSubgraph g y k ≡ yields text → x ≡ y
+
+-- "The solver's plan is within the limits and of largest merit."
+abbrev pub LargestMerit : Type 0
+LargestMerit =
+    (g : Graph) (bound : List ℤ) (lent : Lent) (x : List ℕ) (vertex edge workspace : List ℤ) → Left g bound lent x vertex edge workspace →
+    solve g bound lent ≡ yields tt → Feasible g bound x × ((y : List ℕ) → Feasible g bound y → weightOf g y ≤ℤ weightOf g x)
+
+-- "Refusals come in the listed situations and in no others": a call refuses with a number at a place just where its tests do, and a reader also where
+-- the lines do.
+pub record RefusedJustWhereListed : Type 0 where
+  pub solver : (g : Graph) (bound : List ℤ) (lent : Lent) (i p : ℕ) → Refuses (solve g bound lent) i p ↔ Refusing (solverTests g bound lent) i p
+  pub measuring : (g : Graph) (bound : List ℤ) (x : List ℕ) (P : Prices) (i p : ℕ) → Refuses (measure g bound x P) i p ↔ Refusing (measureTests g bound x P) i p
+  pub writer : (g : Graph) (x : List ℕ) (n : ℕ) (i p : ℕ) → Refuses (writeSubgraph g x n) i p ↔ Refusing (writerTests g x n) i p
+  pub graphReader : (r c w : ℕ) (text : List ℕ) (i p : ℕ) → Refuses (readGraph r c w text) i p ↔
+      (Refusing (graphReaderTests r c w text) i p ⊎ (Passing (graphReaderTests r c w text) × Refuses (readText graphLayout text) i p))
+  pub numberReader : (what : Numbers) (count n : ℕ) (text : List ℕ) (i p : ℕ) → Refuses (readNumbers what count n text) i p ↔
+      (Refusing (numberReaderTests count n text) i p ⊎ (Passing (numberReaderTests count n text) × Refuses (readText (numberLayout what count) text) i p))
+  pub subgraphReader : (g : Graph) (n : ℕ) (text : List ℕ) (i p : ℕ) → Refuses (readSubgraph g n text) i p ↔
+      (Refusing (subgraphReaderTests g n text) i p ⊎ (Passing (subgraphReaderTests g n text) × Refuses (readText (subgraphLayout g) text) i p))
+
+-- ---- Demand 3
+
+-- What the solver's prices show: they are in range and cover every edge, and a feasible subgraph y, measured against them without odd sets, is
+-- accepted and has the solver's weight exactly where its gap is 0.
+pub record Certifies (g : Graph) (bound : List ℤ) (x : List ℕ) (vertex edge : List ℤ) : Type 0 where
+  pub vertexRange : (v : ℕ) → v < vertices g → SolverPrice (vertexPrice (withoutSets vertex edge) v)
+  pub edgeRange : (e : ℕ) → e < g .edges → SolverPrice (edgePrice (withoutSets vertex edge) e)
+  pub covering : (e : ℕ) → e < g .edges → weightAt g e ≤ℤ coverOf g (withoutSets vertex edge) e
+  pub exact : (y : List ℕ) → Feasible g bound y →
+      (M : Measures) × (measure g bound y (withoutSets vertex edge) ≡ yields M) × ((M .gap ≡ pos 0) ↔ (weightOf g y ≡ weightOf g x))
+
+-- "The solver's prices are in range and cover every pair, and a plan within the limits has the solver's merit exactly when its measured gap is 0."
+abbrev pub SolverCertifies : Type 0
+SolverCertifies =
+    (g : Graph) (bound : List ℤ) (lent : Lent) (x : List ℕ) (vertex edge workspace : List ℤ) → Left g bound lent x vertex edge workspace →
+    solve g bound lent ≡ yields tt → Certifies g bound x vertex edge
+
+-- A graph with its bounds passes: its lengths, its numbers and the bounds'.
+pub record Accepts (g : Graph) (bound : List ℤ) : Type 0 where
+  pub graph : Passing (once LentLength (graphLengths g) ∷ graphTests g)
+  pub boundLong : length bound ≡ vertices g
+  pub bounds : Passing (boundTest g bound ∷ [])
+
+-- A price sheet covers a graph: each price is in range, there are at most 16 odd sets, each of which keeps the rules, and every edge is covered.
+pub record Covers (g : Graph) (bound : List ℤ) (P : Prices) : Type 0 where
+  pub vertexLong : length (P .vertex) ≡ vertices g
+  pub edgeLong : length (P .edge) ≡ g .edges
+  pub setLong : length (P .set) ≡ P .sets
+  pub vertexWordsLong : length (P .setVertices) ≡ vertexWords * P .sets
+  pub edgeWordsLong : length (P .setEdges) ≡ edgeWords * P .sets
+  pub vertexRange : (v : ℕ) → v < vertices g → priceInRange (vertexPrice P v) ≡ true
+  pub edgeRange : (e : ℕ) → e < g .edges → priceInRange (edgePrice P e) ≡ true
+  pub setRange : (s : ℕ) → s < P .sets → priceInRange (setPrice P s) ≡ true
+  pub fewSets : P .sets ≤ mostSets
+  pub rules : (s : ℕ) → s < P .sets → keepsRules g bound P s ≡ true
+  pub covering : (e : ℕ) → e < g .edges → weightAt g e ≤ℤ coverOf g P e
+
+-- "On either sort of sheet the gap and leftovers are as defined, none below 0, they add up to the gap, and the gap is at least what the plan lacks":
+-- a feasible subgraph is measured against such prices, and the numbers mean what they should.
+abbrev pub MeasuredMeans : Type 0
+MeasuredMeans =
+    (g : Graph) (bound : List ℤ) (x : List ℕ) (P : Prices) → Accepts g bound → Feasible g bound x → Covers g bound P →
+    (M : Measures) × (measure g bound x P ≡ yields M) × Meaning g bound x P M
+
+-- What a plan lacks is a number: every graph and bounds that pass have an optimal subgraph, and any two of them weigh the same.
+pub record OptimumExists : Type 0 where
+  pub some : (g : Graph) (bound : List ℤ) → Accepts g bound → (x : List ℕ) × Optimal g bound x
+  pub same : (g : Graph) (bound : List ℤ) (x y z : List ℕ) → Optimal g bound x → Optimal g bound y → lacks g x z ≡ lacks g y z
