@@ -13,8 +13,8 @@ use Rattle.graph.proofs.Passing.{some-cong, some-next}
 use Rattle.checks.specs.Checks.{Flagged, flagAt, tableFlags, joinedIn, Seen}
 
 -- Edge e has row r and column c.
-abbrev joins : List ℕ → List ℕ → ℕ → ℕ → ℕ → Bool
-joins row column r c e = eqb (getD row e 0) r && eqb (getD column e 0) c
+abbrev joinsIn : List ℕ → List ℕ → ℕ → ℕ → ℕ → Bool
+joinsIn row column r c e = eqb (getD row e 0) r && eqb (getD column e 0) c
 
 -- A flag is one of the table's.
 pub flag-within : {r c : ℕ} → Flagged r → Flagged c → flagAt r c < tableFlags
@@ -39,7 +39,7 @@ seen-cong flags row column row′ column′ n same S = record {
   each = λ r c p q.
       S .each r c p q
       ∙ ap (λ (b : Bool). cond b 1 0)
-      (some-cong n (joins row column r c) (joins row′ column′ r c) (λ e l. ap₂ _&&_ (ap (λ k. eqb k r) (same e l .0)) (ap (λ k. eqb k c) (same e l .1))));
+      (some-cong n (joinsIn row column r c) (joinsIn row′ column′ r c) (λ e l. ap₂ _&&_ (ap (λ k. eqb k r) (same e l .0)) (ap (λ k. eqb k c) (same e l .1))));
 }
 
 module _ {flags row column : List ℕ} {n : ℕ} (S : Seen flags row column n) where
@@ -72,11 +72,11 @@ module _ {flags row column : List ℕ} {n : ℕ} (S : Seen flags row column n) w
     where
       next : (s d : ℕ) → getD row n 0 ≡ s → getD column n 0 ≡ d → joinedIn row column (n + 1) s d ≡ true
       next s d i j =
-          some-next n (joins row column s d)
+          some-next n (joinsIn row column s d)
           ∙ ap (λ (a : Bool). joinedIn row column n s d || a) (ap₂ _&&_ (eq-eqb _ _ i) (eq-eqb _ _ j))
           ∙ or-true (joinedIn row column n s d)
 
-      other : (s d : ℕ) → (flagAt s d ≡ flagAt r c → ⊥) → joins row column s d n ≡ false
+      other : (s d : ℕ) → (flagAt s d ≡ flagAt r c → ⊥) → joinsIn row column s d n ≡ false
       other s d e = elim (ℕ-discrete (getD row n 0) s) [
         | yes i ↦ elim (ℕ-discrete (getD column n 0) d) [
           | yes j ↦ absurd (e (ap₂ flagAt (sym i ∙ rowIs) (sym j ∙ columnIs)))
@@ -87,7 +87,7 @@ module _ {flags row column : List ℕ} {n : ℕ} (S : Seen flags row column n) w
 
       kept : (s d : ℕ) → (flagAt s d ≡ flagAt r c → ⊥) → joinedIn row column (n + 1) s d ≡ joinedIn row column n s d
       kept s d e =
-          some-next n (joins row column s d) ∙ ap (λ (a : Bool). joinedIn row column n s d || a) (other s d e) ∙ or-false (joinedIn row column n s d)
+          some-next n (joinsIn row column s d) ∙ ap (λ (a : Bool). joinedIn row column n s d || a) (other s d e) ∙ or-false (joinedIn row column n s d)
 
 -- An edge is appended to n edges, and noted.
 pub seen-append : {flags row column : List ℕ} (n : ℕ) (new : List ℕ) (r c : ℕ) → Seen flags row column n → new ≡ set flags (flagAt r c) 1 →

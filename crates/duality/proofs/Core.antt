@@ -278,21 +278,21 @@ at-most (suc (suc k)) j h = absurd (omega arith)
 module _ (n m : ℕ) (first second : ℕ → ℕ) (firstIn : (e : ℕ) → e < m → first e < n) (secondIn : (e : ℕ) → e < m → second e < n)
     (x : ℕ → ℕ) (marks : (e : ℕ) → e < m → x e ≤ 1) (bound : ℕ → ℕ) (within : (v : ℕ) → v < n → sum m (λ e. x e * ends first second v e) ≤ bound v)
     (inside marked : ℕ → Bool) (oneEnd : (e : ℕ) → e < m → marked e ≡ true → one (inside (first e)) + one (inside (second e)) ≡ 1) where
-  abbrev endsInside : ℕ → ℕ
-  endsInside e = one (inside (first e)) + one (inside (second e))
+  abbrev endsCounted : ℕ → ℕ
+  endsCounted e = one (inside (first e)) + one (inside (second e))
 
   abbrev covering : ℕ → ℕ
   covering e = one (marked e || inside (first e) && inside (second e))
 
-  twice : 2 * sum m (λ e. x e * covering e) ≤ sum m (λ e. x e * (one (marked e) + endsInside e))
+  twice : 2 * sum m (λ e. x e * covering e) ≤ sum m (λ e. x e * (one (marked e) + endsCounted e))
   twice =
-      subst (λ k. k ≤ sum m (λ e. x e * (one (marked e) + endsInside e))) (sum-scale m 2 (λ e. x e * covering e))
+      subst (λ k. k ≤ sum m (λ e. x e * (one (marked e) + endsCounted e))) (sum-scale m 2 (λ e. x e * covering e))
       (sum-mono m _ _ (λ e l.
-      subst (λ k. k ≤ x e * (one (marked e) + endsInside e)) (mul-left-comm (x e) 2 (covering e))
+      subst (λ k. k ≤ x e * (one (marked e) + endsCounted e)) (mul-left-comm (x e) 2 (covering e))
       (mul-le-mul-left (x e) (two-cover (marked e) (inside (first e)) (inside (second e)) (oneEnd e l)))))
 
-  split : sum m (λ e. x e * (one (marked e) + endsInside e)) ≡ sum m (λ e. x e * one (marked e)) + sum m (λ e. x e * endsInside e)
-  split = sum-cong m _ _ (λ e l. mul-add (x e) (one (marked e)) (endsInside e)) ∙ sum-add m (λ e. x e * one (marked e)) (λ e. x e * endsInside e)
+  split : sum m (λ e. x e * (one (marked e) + endsCounted e)) ≡ sum m (λ e. x e * one (marked e)) + sum m (λ e. x e * endsCounted e)
+  split = sum-cong m _ _ (λ e l. mul-add (x e) (one (marked e)) (endsCounted e)) ∙ sum-add m (λ e. x e * one (marked e)) (λ e. x e * endsCounted e)
 
   pub covered-load : 2 * sum m (λ e. x e * covering e) ≤ sum n (λ v. one (inside v) * bound v) + sum m (λ e. one (marked e))
   covered-load =

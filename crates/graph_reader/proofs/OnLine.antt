@@ -28,26 +28,26 @@ use Rattle.text.proofs.Integers.{edge-fits}
 use Rattle.graph_reader.specs.OnLine.{EdgeRanged}
 
 -- The header line: its kind, or none.
-abbrev told : Option Kind → Step Kind
-told none = stops Header
-told (some kind) = goes kind
+abbrev kindStep : Option Kind → Step Kind
+kindStep none = stops Header
+kindStep (some kind) = goes kind
 
-header-does : (l : List ℕ) → told (kindTold (bytes "integer") l) ≡ graphHeader l
+header-does : (l : List ℕ) → kindStep (kindTold (bytes "integer") l) ≡ graphHeader l
 header-does l =
     go (header (bytes "matrix" ∷ bytes "coordinate" ∷ bytes "integer" ∷ bytes "general" ∷ []) l)
     (header (bytes "matrix" ∷ bytes "coordinate" ∷ bytes "integer" ∷ bytes "symmetric" ∷ []) l)
   where
-    go : (a b : Bool) → told (cond a (some Bipartite) (cond b (some General) none)) ≡ cond a (goes Bipartite) (cond b (goes General) (stops Header))
+    go : (a b : Bool) → kindStep (cond a (some Bipartite) (cond b (some General) none)) ≡ cond a (goes Bipartite) (cond b (goes General) (stops Header))
     go true b = refl
     go false true = refl
     go false false = refl
 
 module _ (l : List ℕ) {r : HeaderKind} (says : kindSays r ≡ kindTold (bytes "integer") l) where
   pub header-is : {kind : Kind} → r ≡ HeaderKind.Is kind → graphHeader l ≡ goes kind
-  header-is is = sym (header-does l) ∙ ap told (sym says ∙ ap kindSays is)
+  header-is is = sym (header-does l) ∙ ap kindStep (sym says ∙ ap kindSays is)
 
   pub header-not : r ≡ HeaderKind.Not → graphHeader l ≡ stops Header
-  header-not is = sym (header-does l) ∙ ap told (sym says ∙ ap kindSays is)
+  header-not is = sym (header-does l) ∙ ap kindStep (sym says ∙ ap kindSays is)
 
 -- The size line.
 module _ (kind : Kind) {o : Option (ℕ × ℕ × ℕ)} {r : Triple} (says : tripleSays r ≡ o) where

@@ -128,11 +128,11 @@ edge-found {g} a n l =
 abbrev countOf : Graph → List ℕ → ℕ
 countOf g x = sum (g .edges) (markAt x)
 
-abbrev marked : ℕ → ℕ → List ℕ → Marked
-marked count came marks = record { count = count; came = came; marks = marks }
+abbrev marksSoFar : ℕ → ℕ → List ℕ → Marked
+marksSoFar count came marks = record { count = count; came = came; marks = marks }
 
 abbrev stateAt : Graph → List ℕ → ℕ → Marked
-stateAt g x n = marked (countOf g x) (sum n (markAt x)) (marksTo (g .edges) x n)
+stateAt g x n = marksSoFar (countOf g x) (sum n (markAt x)) (marksTo (g .edges) x n)
 
 -- The marks of fewer edges add up to no more.
 sum-prefix : (f : ℕ → ℕ) (n m : ℕ) → n ≤ m → sum n f ≤ sum m f
@@ -167,9 +167,9 @@ module _ {g : Graph} {x : List ℕ} (a : Accepted g x) where
           (two-back (rowAt g n) (columnAt g n) (omega (arith, S .row-small n l)) (omega (arith, S .column-small n l)))
           ∙ ap (λ (t : Bool). cond t (subgraphMark (stateAt g x n) (edgeWith g (rowAt g n) (columnAt g n))) (stops Ends)) (a .passed .sound .ends n l .test)
           ∙ ap (subgraphMark (stateAt g x n)) (edge-found a n l)
-          ∙ ap (λ (t : Bool). cond t (goes (marked (countOf g x) (sum n (markAt x) + 1) (set (marksTo (g .edges) x n) n 1))) (stops SameEnds))
+          ∙ ap (λ (t : Bool). cond t (goes (marksSoFar (countOf g x) (sum n (markAt x) + 1) (set (marksTo (g .edges) x n) n 1))) (stops SameEnds))
           (eq-eqb (getD (marksTo (g .edges) x n) n 0) 0 (marks-clear (g .edges) x (a .marks .long) n l))
-          ∙ ap₂ (λ (k : ℕ) (ms : List ℕ). goes (marked (countOf g x) (sum n (markAt x) + k) ms)) (sym chosen)
+          ∙ ap₂ (λ (k : ℕ) (ms : List ℕ). goes (marksSoFar (countOf g x) (sum n (markAt x) + k) ms)) (sym chosen)
           (marks-set (g .edges) x (a .marks .long) n l chosen)
 
       chosen-step : onLine (subgraphLayout g) (reading (stateAt g x n)) lineAt ≡ goes (reading (stateAt g x (suc n)))
@@ -178,7 +178,7 @@ module _ {g : Graph} {x : List ℕ} (a : Accepted g x) where
     unchosen-step : markAt x n ≡ 0 → stateAt g x n ≡ stateAt g x (suc n)
     unchosen-step e =
         let s : sum n (markAt x) ≡ sum n (markAt x) + markAt x n = omega arith in
-        ap₂ (λ (k : ℕ) (ms : List ℕ). marked (countOf g x) k ms) s (marks-kept (g .edges) x (a .marks .long) n l e)
+        ap₂ (λ (k : ℕ) (ms : List ℕ). marksSoFar (countOf g x) k ms) s (marks-kept (g .edges) x (a .marks .long) n l e)
 
     step-at : Reaches (subgraphLayout g) (reading (stateAt g x n)) (linesAt g x n) (reading (stateAt g x (suc n)))
     step-at = go (eqb (markAt x n) 1) refl
@@ -212,7 +212,7 @@ module _ {g : Graph} {x : List ℕ} (a : Accepted g x) where
       (ap (subgraphHeader g) (header-back (g .kind)) ∙ ap (λ (t : Bool). cond t (goes tt) (stops Disagreement)) (same-kind (g .kind)))
 
   abbrev sizesRead : Step Marked
-  sizesRead = goes (marked (countOf g x) 0 (replicate (g .edges) 0))
+  sizesRead = goes (marksSoFar (countOf g x) 0 (replicate (g .edges) 0))
 
   abbrev agrees : Bool
   agrees = eqb (g .rows) (g .rows) && eqb (g .columns) (g .columns) && leb (countOf g x) (g .edges)
@@ -227,7 +227,7 @@ module _ {g : Graph} {x : List ℕ} (a : Accepted g x) where
       (eq-eqb (g .rows) (g .rows) refl
       also eq-eqb (g .columns) (g .columns) refl
       also le-leb (countOf g x) (g .edges) (count-le (a .marks)))
-      ∙ ap (λ (ms : List ℕ). goes (marked (countOf g x) 0 ms)) (marks-none (g .edges) x (a .marks .long))
+      ∙ ap (λ (ms : List ℕ). goes (marksSoFar (countOf g x) 0 ms)) (marks-none (g .edges) x (a .marks .long))
 
   size-step : onLine (subgraphLayout g) (sizing tt) sizeLine ≡ goes (reading (stateAt g x 0))
   size-step =
