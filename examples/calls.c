@@ -1,10 +1,11 @@
 /* The calls from C, through the layer of jangoripu.h: draws up the plan of the season, marks it against the season's prices, and measures
- * the tank's plan against prices with a group. Run in this folder; what it writes is in calls.out. */
+ * the tank's plan against prices with a group; builds and tests the index of both sheets. Run in this folder; what it writes is in
+ * calls.out. */
 #include "jangoripu.h"
 #include <stdio.h>
 #include <stdlib.h>
 
-static uint32_t row[JANGORIPU_MOST_EDGES], column[JANGORIPU_MOST_EDGES];
+static uint32_t row[JANGORIPU_MOST_EDGES], column[JANGORIPU_MOST_EDGES], listed[JANGORIPU_LONGEST_INDEX];
 static int32_t weight[JANGORIPU_MOST_EDGES], bound[JANGORIPU_MOST_VERTICES];
 static uint8_t chosen[JANGORIPU_MOST_EDGES];
 
@@ -37,6 +38,29 @@ static jangoripu_sheet sheet(const char *path, const char *limits) {
     return s;
 }
 
+/* Builds the sheet's index, and tests it as it is and with its last number changed. */
+static void build_index(jangoripu_sheet *s) {
+    size_t last = jangoripu_index_length(s) - 1;
+    uint32_t refusal;
+    uint64_t place;
+    expect(jangoripu_index_build(s, listed, &place), &place, "input");
+    expect(jangoripu_index_test(s, &place), &place, "index");
+    listed[last]++;
+    refusal = jangoripu_index_test(s, &place);
+    printf("refused %u at %llu in index\n", (unsigned)refusal, (unsigned long long)place);
+    listed[last]--;
+}
+
+/* Writes the pairs of a fish, as the sheet's index lists them. */
+static void write_pairs(const jangoripu_sheet *s, uint32_t fish) {
+    const uint32_t *pair = s->index + jangoripu_vertices(s) + 1;
+    uint32_t at;
+    printf("fish %u is in pairs", (unsigned)fish);
+    for (at = s->index[fish - 1]; at < s->index[fish]; at++)
+        printf(" %u", (unsigned)pair[at]);
+    printf("\n");
+}
+
 static void mark(const jangoripu_sheet *s, const jangoripu_prices *p) {
     jangoripu_measures m;
     uint64_t place;
@@ -53,6 +77,8 @@ static void season(void) {
     jangoripu_prices p;
     uint64_t place;
     size_t length;
+    build_index(&s);
+    write_pairs(&s, 6);
     expect(jangoripu_sheet_solve(&s, chosen, vertex_price, edge_price, workspace, &place), &place, "input");
     expect(jangoripu_plan_write(&s, chosen, out, &length, &place), &place, "input");
     fwrite(out, 1, length, stdout);
@@ -69,6 +95,8 @@ static void tank(void) {
     jangoripu_sheet s = sheet("tank/sheet.mtx", "tank/limits.mtx");
     uint64_t place;
     size_t length = load("tank/plan.mtx");
+    build_index(&s);
+    write_pairs(&s, 3);
     expect(jangoripu_plan_read(&s, text, length, chosen, &place), &place, "tank/plan.mtx");
     mark(&s, &p);
 }

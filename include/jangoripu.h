@@ -1,4 +1,4 @@
-/* The six calls of Jangoripu, exported from the static library libjangoripu.a, and a small layer over them at the end of this file.
+/* The eight calls of Jangoripu, exported from the static library libjangoripu.a, and a small layer over them at the end of this file.
  *
  * A sheet is a graph: fish are its vertices, pairs its edges, merits its weights, limits its bounds; a plan is a subgraph, a group an
  * odd set and a leftover a slack. On a two-sided sheet (a bipartite graph) the dams are the rows and the sires the columns; on a
@@ -7,6 +7,10 @@
  * Vertices: row i is vertex i, and column j of a two-sided sheet is vertex rows + j; on a one-sided sheet family i is vertex i. There
  * are rows + columns vertices, or rows on a one-sided sheet. Edges are numbered in the order of the sheet. Both count from 1, so
  * vertex v and edge e stand at [v - 1] and [e - 1] of their arrays. Rows and columns hold numbers from 1, as the text does.
+ *
+ * A sheet of either sort has an index, which lists the edges of each vertex (compressed row layout): for n vertices and m edges n + 1
+ * offsets and then 2m edge numbers, grouped by vertex, rising within a vertex. The first offset is 0 and the last 2m; vertex v has the
+ * edge numbers at [n + 1 + index[v - 1]] up to, not including, [n + 1 + index[v]]. So each edge stands there twice, once for each end.
  *
  * A slice is passed as a pointer and then its length, in numbers, which is exactly what is said at the call. A pointer may point
  * anywhere if its length is 0, but is NOT NULL; the layer below takes care of that. Slices that are written overlap no other.
@@ -28,7 +32,8 @@
 extern "C" {
 #endif
 
-/* What is refused, and which place is told: the line of a text, or the number of an edge, a vertex, a price or an odd set, from 1; or 0. */
+/* What is refused, and which place is told: the line of a text, or the number of an edge, a vertex, a price, an odd set or an index's
+ * number, from 1; or 0. */
 enum jangoripu_refusal {
     JANGORIPU_OK = 0,            /* a result */
     JANGORIPU_TEXT_LENGTH = 1,   /* the text is too long; 0 */
@@ -47,7 +52,8 @@ enum jangoripu_refusal {
     JANGORIPU_ODD_SET = 14,      /* an odd set (group) breaks a rule, or there are too many; set, or 17 */
     JANGORIPU_UNCOVERED = 15,    /* an edge (pair) is not covered; edge */
     JANGORIPU_NOT_BIPARTITE = 16, /* a one-sided sheet given to the solver; 0 */
-    JANGORIPU_DISAGREEMENT = 17  /* a plan's kind, rows, columns or count disagree with the sheet, or its pair is not on it; line */
+    JANGORIPU_DISAGREEMENT = 17, /* a plan's kind, rows, columns or count disagree with the sheet, or its pair is not on it; line */
+    JANGORIPU_INDEX = 18         /* the index is not the sheet's; position of the first number that differs, in offsets, then edge numbers */
 };
 
 /* Lengths and ranges. */
@@ -55,6 +61,7 @@ enum jangoripu_refusal {
 #define JANGORIPU_MOST_VERTICES 128      /* vertices; families of a one-sided sheet */
 #define JANGORIPU_MOST_EDGES 1024        /* edges; the length of a sheet reader's outputs */
 #define JANGORIPU_MOST_NUMBERS 1152      /* numbers in a text of limits or prices */
+#define JANGORIPU_LONGEST_INDEX 2177     /* numbers of an index: 128 + 1 + 2 * 1,024 */
 #define JANGORIPU_GREATEST_WEIGHT 1000000 /* a weight is from -1,000,000 to 1,000,000 */
 #define JANGORIPU_GREATEST_BOUND 64      /* a bound is from 0 to 64 */
 #define JANGORIPU_GREATEST_PRICE 2000000 /* a price is from 0 to 2,000,000, the solver's to 1,000,000 */
@@ -105,13 +112,27 @@ uint32_t jangoripu_write_subgraph(bool general, uint32_t rows, uint32_t columns,
                                   const uint32_t *column, size_t column_len, const int32_t *weight, size_t weight_len,
                                   const uint8_t *chosen, size_t chosen_len, uint8_t *out, size_t out_len, uint64_t answer[2]);
 
+/* Builds the index of a sheet of either sort. row, column and weight have exactly edges numbers each; index has exactly
+ * n + 1 + 2 * edges, n the number of vertices, and after a refusal only 0. Refusals: 9, 4, 6, 7, 8. No pointer is null. */
+uint32_t jangoripu_build_index(bool general, uint32_t rows, uint32_t columns, uint32_t edges, const uint32_t *row, size_t row_len,
+                               const uint32_t *column, size_t column_len, const int32_t *weight, size_t weight_len, uint32_t *index,
+                               size_t index_len, uint64_t *place);
+
+/* Tests whether an index is the sheet's; the lengths are those of building it. Nothing is written but the place.
+ * Refusals: 9, 4, 6, 7, 8, 18. No pointer is null. */
+uint32_t jangoripu_test_index(bool general, uint32_t rows, uint32_t columns, uint32_t edges, const uint32_t *row, size_t row_len,
+                              const uint32_t *column, size_t column_len, const int32_t *weight, size_t weight_len,
+                              const uint32_t *index, size_t index_len, uint64_t *place);
+
 /* Solves a two-sided sheet: a plan of largest merit, and prices that prove it. bound and vertex_price have exactly a number for each
- * vertex; row, column, weight, chosen and edge_price exactly one for each edge; workspace exactly 4,096, all 0 afterwards.
- * Refusals: 9, 4, 6, 7, 8, 10, 16. No pointer is null. */
+ * vertex; row, column, weight, chosen and edge_price exactly one for each edge; index is the sheet's, and is tested; workspace has
+ * exactly 4,096 numbers, all 0 afterwards.
+ * Refusals: 9, 4, 6, 7, 8, 10, 16, 18. No pointer is null. */
 uint32_t jangoripu_solve(bool general, uint32_t rows, uint32_t columns, uint32_t edges, const uint32_t *row, size_t row_len,
                          const uint32_t *column, size_t column_len, const int32_t *weight, size_t weight_len, const int32_t *bound,
-                         size_t bound_len, uint8_t *chosen, size_t chosen_len, int32_t *vertex_price, size_t vertex_price_len,
-                         int32_t *edge_price, size_t edge_price_len, int32_t *workspace, size_t workspace_len, uint64_t *place);
+                         size_t bound_len, const uint32_t *index, size_t index_len, uint8_t *chosen, size_t chosen_len,
+                         int32_t *vertex_price, size_t vertex_price_len, int32_t *edge_price, size_t edge_price_len, int32_t *workspace,
+                         size_t workspace_len, uint64_t *place);
 
 /* Measures a plan against prices, on a sheet of either sort. bound and vertex_price have exactly a number for each vertex; row, column,
  * weight, chosen and edge_price exactly one for each edge; set_price exactly one for each odd set, set_vertices 2 words and set_edges
@@ -127,16 +148,19 @@ uint32_t jangoripu_measure(bool general, uint32_t rows, uint32_t columns, uint32
                            const int32_t *set_price, size_t set_price_len, const uint64_t *set_vertices, size_t set_vertices_len,
                            const uint64_t *set_edges, size_t set_edges_len, int64_t numbers[7], uint64_t *place);
 
-/* ---- A layer over the calls: a sheet by its pointers. The lengths follow from the sheet, so they cannot be wrong (9), and a pointer
- * may be null where its length is 0. Each function returns what its call returns; place may be null. */
+/* ---- A layer over the calls: a sheet by its pointers. The lengths follow from the sheet, so they cannot be wrong. A pointer may be
+ * null where its length is 0; where it is not, a null pointer of a sheet, of marks or of prices counts as a wrong length (9). Each
+ * function returns what its call returns; place may be null. */
 
-/* A sheet: its kind and sizes, and what its arrays hold. bound may be null where no limits are asked for. */
+/* A sheet: its kind and sizes, and what its arrays hold. bound may be null where no limits are asked for; index may be null, and the
+ * solver then has one built. */
 typedef struct jangoripu_sheet {
     bool general;
     uint32_t rows, columns, edges;
     const uint32_t *row, *column; /* edges numbers each */
     const int32_t *weight;        /* edges numbers */
     const int32_t *bound;         /* a number for each vertex */
+    const uint32_t *index;        /* jangoripu_index_length numbers */
 } jangoripu_sheet;
 
 /* A price sheet: a price for each vertex and each edge, and the odd sets, of which there may be none. */
@@ -158,10 +182,20 @@ static inline size_t jangoripu_vertices(const jangoripu_sheet *s) {
     return s->general ? (size_t)s->rows : (size_t)s->rows + s->columns;
 }
 
-/* A pointer that is not null, and the place that is told, if it is asked for. */
+/* The length of the sheet's index. */
+static inline size_t jangoripu_index_length(const jangoripu_sheet *s) {
+    return jangoripu_vertices(s) + 1 + 2 * (size_t)s->edges;
+}
+
+/* A pointer that is not null, to be read or to be written, and the place that is told, if it is asked for. */
 static inline const void *jangoripu_some(const void *pointer) {
     static const uint64_t nothing = 0;
     return pointer != NULL ? pointer : (const void *)&nothing;
+}
+
+static inline void *jangoripu_room(void *pointer) {
+    static uint64_t nothing;
+    return pointer != NULL ? pointer : (void *)&nothing;
 }
 
 static inline uint32_t jangoripu_told(uint32_t refusal, uint64_t at, uint64_t *place) {
@@ -170,7 +204,14 @@ static inline uint32_t jangoripu_told(uint32_t refusal, uint64_t at, uint64_t *p
     return refusal;
 }
 
-/* Reads a sheet into arrays of 1,024 numbers each, and points s at them; s has no bounds then. */
+/* A slice that is read or written, and a sheet's numbers, as the calls take them. */
+#define JANGORIPU_READ(type, pointer, length) (const type *)jangoripu_some(pointer), (pointer) != NULL ? (size_t)(length) : 0
+#define JANGORIPU_WRITTEN(type, pointer, length) (type *)jangoripu_room(pointer), (pointer) != NULL ? (size_t)(length) : 0
+#define JANGORIPU_NUMBERS(s)                                                                                                              \
+    (s)->general, (s)->rows, (s)->columns, (s)->edges, JANGORIPU_READ(uint32_t, (s)->row, (s)->edges),                                    \
+        JANGORIPU_READ(uint32_t, (s)->column, (s)->edges), JANGORIPU_READ(int32_t, (s)->weight, (s)->edges)
+
+/* Reads a sheet into arrays of 1,024 numbers each, and points s at them; s has no bounds and no index then. */
 static inline uint32_t jangoripu_sheet_read(jangoripu_sheet *s, const void *text, size_t length, uint32_t *row, uint32_t *column,
                                             int32_t *weight, uint64_t *place) {
     uint64_t told[JANGORIPU_GRAPH_TOLD];
@@ -184,6 +225,7 @@ static inline uint32_t jangoripu_sheet_read(jangoripu_sheet *s, const void *text
     s->column = column;
     s->weight = weight;
     s->bound = NULL;
+    s->index = NULL;
     return jangoripu_told(refusal, told[JANGORIPU_GRAPH_PLACE], place);
 }
 
@@ -213,29 +255,52 @@ static inline uint32_t jangoripu_prices_read(const jangoripu_sheet *s, const voi
 /* Reads a plan of the sheet; chosen has room for a mark for each edge. */
 static inline uint32_t jangoripu_plan_read(const jangoripu_sheet *s, const void *text, size_t length, uint8_t *chosen, uint64_t *place) {
     uint64_t at;
-    uint32_t refusal = jangoripu_read_subgraph((const uint8_t *)jangoripu_some(text), length, s->general, s->rows, s->columns, s->edges,
-                                               s->row, s->edges, s->column, s->edges, s->weight, s->edges, chosen, s->edges, &at);
+    uint32_t refusal = jangoripu_read_subgraph((const uint8_t *)jangoripu_some(text), length, JANGORIPU_NUMBERS(s),
+                                               JANGORIPU_WRITTEN(uint8_t, chosen, s->edges), &at);
     return jangoripu_told(refusal, at, place);
 }
 
 /* Writes a plan of the sheet; out has 16,384 bytes, and *length is how many of them the text has. */
 static inline uint32_t jangoripu_plan_write(const jangoripu_sheet *s, const uint8_t *chosen, uint8_t *out, size_t *length, uint64_t *place) {
     uint64_t told[JANGORIPU_TEXT_TOLD];
-    uint32_t refusal = jangoripu_write_subgraph(s->general, s->rows, s->columns, s->edges, s->row, s->edges, s->column, s->edges, s->weight,
-                                                s->edges, (const uint8_t *)jangoripu_some(chosen), s->edges, out, JANGORIPU_SUBGRAPH_BYTES,
-                                                told);
+    uint32_t refusal = jangoripu_write_subgraph(JANGORIPU_NUMBERS(s), JANGORIPU_READ(uint8_t, chosen, s->edges), out,
+                                                JANGORIPU_SUBGRAPH_BYTES, told);
     *length = (size_t)told[JANGORIPU_TEXT_BYTES];
     return jangoripu_told(refusal, told[JANGORIPU_TEXT_PLACE], place);
 }
 
-/* Solves the sheet: a plan of largest merit, and prices of its vertices and edges that prove it; workspace has 4,096 numbers. */
+/* Builds the sheet's index into an array of at least as many numbers as it has (2,177 always do), and points s at it. */
+static inline uint32_t jangoripu_index_build(jangoripu_sheet *s, uint32_t *index, uint64_t *place) {
+    uint64_t at;
+    uint32_t refusal = jangoripu_build_index(JANGORIPU_NUMBERS(s), JANGORIPU_WRITTEN(uint32_t, index, jangoripu_index_length(s)), &at);
+    s->index = index;
+    return jangoripu_told(refusal, at, place);
+}
+
+/* Tests whether the index that s points at is the sheet's. */
+static inline uint32_t jangoripu_index_test(const jangoripu_sheet *s, uint64_t *place) {
+    uint64_t at;
+    uint32_t refusal = jangoripu_test_index(JANGORIPU_NUMBERS(s), JANGORIPU_READ(uint32_t, s->index, jangoripu_index_length(s)), &at);
+    return jangoripu_told(refusal, at, place);
+}
+
+/* Solves the sheet: a plan of largest merit, and prices of its vertices and edges that prove it; workspace has 4,096 numbers. Where s
+ * points at no index, one is built for this call on the stack, in 8,708 bytes. */
 static inline uint32_t jangoripu_sheet_solve(const jangoripu_sheet *s, uint8_t *chosen, int32_t *vertex_price, int32_t *edge_price,
                                              int32_t *workspace, uint64_t *place) {
+    uint32_t own[JANGORIPU_LONGEST_INDEX], refusal;
+    const uint32_t *index = s->index;
     uint64_t at;
-    size_t n = jangoripu_vertices(s);
-    uint32_t refusal = jangoripu_solve(s->general, s->rows, s->columns, s->edges, s->row, s->edges, s->column, s->edges, s->weight, s->edges,
-                                       (const int32_t *)jangoripu_some(s->bound), s->bound != NULL ? n : 0, chosen, s->edges, vertex_price,
-                                       n, edge_price, s->edges, workspace, JANGORIPU_WORKSPACE_NUMBERS, &at);
+    size_t n = jangoripu_vertices(s), length = jangoripu_index_length(s);
+    if (index == NULL && length <= JANGORIPU_LONGEST_INDEX) {
+        jangoripu_build_index(JANGORIPU_NUMBERS(s), own, length, &at); /* what this refuses, the solver refuses too */
+        index = own;
+    }
+    refusal = jangoripu_solve(JANGORIPU_NUMBERS(s), JANGORIPU_READ(int32_t, s->bound, n), JANGORIPU_READ(uint32_t, index, length),
+                              JANGORIPU_WRITTEN(uint8_t, chosen, s->edges), JANGORIPU_WRITTEN(int32_t, vertex_price, n),
+                              JANGORIPU_WRITTEN(int32_t, edge_price, s->edges), workspace, JANGORIPU_WORKSPACE_NUMBERS, &at);
+    if (index == NULL && s->bound != NULL)
+        refusal = JANGORIPU_SIZES; /* the index would be longer than that of any sheet in range */
     return jangoripu_told(refusal, at, place);
 }
 
@@ -245,13 +310,11 @@ static inline uint32_t jangoripu_plan_measure(const jangoripu_sheet *s, const ui
     int64_t told[JANGORIPU_MEASURED_TOLD];
     uint64_t at;
     size_t n = jangoripu_vertices(s), sets = p->sets;
-    uint32_t refusal = jangoripu_measure(s->general, s->rows, s->columns, s->edges, s->row, s->edges, s->column, s->edges, s->weight,
-                                         s->edges, (const int32_t *)jangoripu_some(s->bound), s->bound != NULL ? n : 0,
-                                         (const uint8_t *)jangoripu_some(chosen), s->edges, p->vertex, n,
-                                         (const int32_t *)jangoripu_some(p->edge), s->edges, p->sets,
-                                         (const int32_t *)jangoripu_some(p->set), sets,
-                                         (const uint64_t *)jangoripu_some(p->set_vertices), JANGORIPU_VERTEX_WORDS * sets,
-                                         (const uint64_t *)jangoripu_some(p->set_edges), JANGORIPU_EDGE_WORDS * sets, told, &at);
+    uint32_t refusal = jangoripu_measure(JANGORIPU_NUMBERS(s), JANGORIPU_READ(int32_t, s->bound, n),
+                                         JANGORIPU_READ(uint8_t, chosen, s->edges), JANGORIPU_READ(int32_t, p->vertex, n),
+                                         JANGORIPU_READ(int32_t, p->edge, s->edges), p->sets, JANGORIPU_READ(int32_t, p->set, sets),
+                                         JANGORIPU_READ(uint64_t, p->set_vertices, JANGORIPU_VERTEX_WORDS * sets),
+                                         JANGORIPU_READ(uint64_t, p->set_edges, JANGORIPU_EDGE_WORDS * sets), told, &at);
     m->merit = told[JANGORIPU_MEASURED_WEIGHT];
     m->total = told[JANGORIPU_MEASURED_TOTAL];
     m->fish = told[JANGORIPU_MEASURED_VERTICES];
@@ -261,6 +324,10 @@ static inline uint32_t jangoripu_plan_measure(const jangoripu_sheet *s, const ui
     m->gap = told[JANGORIPU_MEASURED_GAP];
     return jangoripu_told(refusal, at, place);
 }
+
+#undef JANGORIPU_NUMBERS
+#undef JANGORIPU_WRITTEN
+#undef JANGORIPU_READ
 
 #ifdef __cplusplus
 }

@@ -9,6 +9,7 @@ use Rattle.graph.specs.declared.Kind.the-variants.{Bipartite, General}
 use Rattle.graph.specs.Limits.{mostEdges}
 use Rattle.graph.specs.Refusal.{Outcome, yields, told, refusedWith}
 use Rattle.graph.specs.Graph.{Graph, graphOf, vertices}
+use Rattle.graph.specs.Index.{indexOf}
 use Rattle.graph.specs.Subgraph.{Optimal, weightOf}
 use Rattle.layout.specs.declared.Numbers.the-variants.{Bounds}
 use Rattle.layout.specs.Text.{bytes, unlines}
@@ -62,7 +63,7 @@ abbrev pub measuring : Case → Outcome Measures
 measuring c = measure (c .graph) (c .bound) (c .chosen) (c .prices)
 
 abbrev pub solving : Case → Outcome (Unit {0})
-solving c = solve (c .graph) (c .bound) (lentFor (c .graph))
+solving c = solve (c .graph) (c .bound) (indexOf (c .graph)) (lentFor (c .graph))
 
 abbrev pub readSheet : List ℕ → Outcome Graph
 readSheet text = readGraph mostEdges mostEdges mostEdges text

@@ -14,6 +14,7 @@ use Rattle.graph.specs.Refusal.{Outcome, yields, refuses, Told, tells, refusedW
 use Rattle.graph.specs.Graph.{Graph, vertices, weightAt}
 use Rattle.graph.specs.Subgraph.{Optimal}
 use Rattle.graph.specs.Tests.{graphLengths, graphTests, boundTest, kindTest}
+use Rattle.graph.specs.Index.{indexNumbers, indexTest}
 use Rattle.dual.specs.declared.SolveAnswer.{SolveAnswer}
 use Rattle.dual.specs.declared.SolveAnswer.the-variants as SolveAnswer
 use Rattle.dual.specs.Prices.{Prices, vertexPrice, edgePrice}
@@ -29,19 +30,20 @@ pub record Lent : Type 0 where
 abbrev pub lentOf : ℕ → ℕ → ℕ → ℕ → Lent
 lentOf chosen vertex edge workspace = record { chosen = chosen; vertexPrices = vertex; edgePrices = edge; workspace = workspace }
 
--- What is lent has just the lengths that the numbers of vertices and of edges give, and the workspace its own (9).
-abbrev pub solveLengths : Graph → List ℤ → Lent → Bool
-solveLengths g bound lent =
-    graphLengths g && eqb (length bound) (vertices g) && eqb (lent .chosen) (g .edges)
+-- What is lent, the index too, has just the lengths that the numbers of vertices and of edges give, and the workspace its own (9).
+abbrev pub solveLengths : Graph → List ℤ → List ℕ → Lent → Bool
+solveLengths g bound index lent =
+    graphLengths g && eqb (length bound) (vertices g) && eqb (length index) (indexNumbers g) && eqb (lent .chosen) (g .edges)
     && eqb (lent .vertexPrices) (vertices g) && eqb (lent .edgePrices) (g .edges) && eqb (lent .workspace) workspaceNumbers
 
 -- The solver's tests, in their order.
-abbrev pub solverTests : Graph → List ℤ → Lent → List Test
-solverTests g bound lent = once LentLength (solveLengths g bound lent) ∷ (graphTests g ++ (boundTest g bound ∷ kindTest g ∷ []))
+abbrev pub solverTests : Graph → List ℤ → List ℕ → Lent → List Test
+solverTests g bound index lent =
+    once LentLength (solveLengths g bound index lent) ∷ (graphTests g ++ (boundTest g bound ∷ kindTest g ∷ indexTest g index ∷ []))
 
--- When the solver refuses. It accepts a graph with its bounds where none of these tests refuses.
-unfoldable pub solve : Graph → List ℤ → Lent → Outcome (Unit {0})
-solve g bound lent = passing (solverTests g bound lent) (yields tt)
+-- When the solver refuses. It accepts a graph with its bounds and its index where none of these tests refuses.
+unfoldable pub solve : Graph → List ℤ → List ℕ → Lent → Outcome (Unit {0})
+solve g bound index lent = passing (solverTests g bound index lent) (yields tt)
 
 -- What its answer says: that the graph is solved, or a refusal's number and place.
 abbrev pub solveSays : SolveAnswer → Told (Unit {0})
@@ -73,9 +75,9 @@ pub record Zero (lent : Lent) (x : List ℕ) (vertex edge : List ℤ) : Type 0 w
   pub edges : edge ≡ replicate (lent .edgePrices) (pos 0)
 
 -- What the solver leaves: where it accepts the graph, a solution, and where it refuses only zeros; and the workspace holds zeros. All is as long as before.
-pub record Left (g : Graph) (bound : List ℤ) (lent : Lent) (x : List ℕ) (vertex edge workspace : List ℤ) : Type 0 where
-  pub solved : solve g bound lent ≡ yields tt → Solved g bound x vertex edge
-  pub refused : (fault : Fault) (place : ℕ) → solve g bound lent ≡ refuses fault place → Zero lent x vertex edge
+pub record Left (g : Graph) (bound : List ℤ) (index : List ℕ) (lent : Lent) (x : List ℕ) (vertex edge workspace : List ℤ) : Type 0 where
+  pub solved : solve g bound index lent ≡ yields tt → Solved g bound x vertex edge
+  pub refused : (fault : Fault) (place : ℕ) → solve g bound index lent ≡ refuses fault place → Zero lent x vertex edge
   pub cleared : workspace ≡ replicate (lent .workspace) (pos 0)
   pub chosenLong : length x ≡ lent .chosen
   pub vertexLong : length vertex ≡ lent .vertexPrices

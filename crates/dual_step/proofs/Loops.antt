@@ -1,6 +1,6 @@
 -- The two loops of a dual step: the search for the vertex that limits it, and the change of the prices.
 use Prim.Native.Nat.{ℕ, _+_, _-_, _≤_, _<_}
-use mathlib.Core.Path.{_≡_, ap, _∙_, subst}
+use mathlib.Core.Path.{_≡_, refl, ap, _∙_, subst}
 use mathlib.Core.List.{List}
 use native.Mathlib.Omega.{arith}
 use lib.IntN.{ℤ, pos}
@@ -9,7 +9,7 @@ use Rattle.integers.specs.Integer.{up}
 use Rattle.graph.proofs.Passing.{up-to}
 use Rattle.lent.proofs.Setting.{Filling, fill-more}
 use Rattle.tree.specs.Method.{level}
-use Rattle.tree.specs.Tree.{levels, Nearest, Move}
+use Rattle.tree.specs.Tree.{levels, Nearest, Move, Moved}
 use Rattle.dual_step.specs.Step.{far, Distance}
 
 module _ {rows n : ℕ} {gap price rank near : ℕ → ℕ} where
@@ -51,6 +51,21 @@ module _ {rows n : ℕ} {gap price rank near : ℕ → ℕ} where
     at-row = s .at-row;
     at-new = s .at-new;
   }
+
+  -- No vertex allows less than no step.
+  pub nearest-none : {k by v : ℕ} → Nearest rows n gap price rank near k by v → by ≡ 0 → ((w : ℕ) → w < n → level ≤ price w)
+      → Nearest rows n gap price rank near n by v
+  nearest-none s z least = record {
+    low = λ w l r t. omega (arith, z, least w l);
+    new = λ w l t b. omega (arith, z);
+    inside = s .inside;
+    at-row = s .at-row;
+    at-new = s .at-new;
+  }
+
+-- A step by 0 moves no price.
+pub moves-none : {rows n by : ℕ} {rank price : ℕ → ℕ} → by ≡ 0 → Moved rows n by rank price price
+moves-none z = record { each = λ v l. record { row = λ r s. omega (arith, z); column = λ r s. omega (arith, z); other = λ s. refl } }
 
 -- What the change of the prices makes of each.
 abbrev pub Moves : ℕ → ℕ → (ℕ → ℕ) → List ℤ → ℕ → ℤ → Type 0

@@ -49,7 +49,7 @@ pub struct Limit {
     pub vertex: usize,
 }
 
-// The vertex that limits the dual step, by its price or by the edge noted for it.
+// The vertex that limits the dual step, by its price or by the edge noted for it. None limits it more than one that allows no step at all.
 pub fn nearest(
     s: Shape,
     row: &[u32],
@@ -69,6 +69,9 @@ pub fn nearest(
     let mut vertex = root;
     let mut w = 0;
     while w < price.len() {
+        if by == 0 {
+            return Limit { by, vertex };
+        }
         let d = distance(s, row, column, weight, price, rank, near, w);
         if d < by {
             by = d;
@@ -93,13 +96,16 @@ fn moved(rows: u32, by: u32, v: usize, rank: u32, price: u32) -> u32
     price + by
 }
 
-// The dual step: labelled row vertices go down, labelled column vertices up.
+// The dual step: labelled row vertices go down, labelled column vertices up. A step by 0 moves nothing.
 pub fn dual_step(price: &mut [i32], rank: &[u32; MOST_VERTICES], rows: u32, by: u32)
     requires { ⌜ (length (now price) ≤ mostVertices) × (by ≤ level) ⌝ }
     requires { ⌜ ((v : ℕ) → v < length (now price) → levels (now price) v ≤ 2 * level) ⌝ }
     requires { ⌜ ((v : ℕ) → v < length (now price) → v < rows → 0 < entries (now rank) v → by ≤ levels (now price) v) ⌝ }
     ensures { λ _. ⌜ Moved rows (length (now (price .entry))) by (entries (now (rank .entry))) (levels (now (price .entry))) (levels (now (price .exit))) ⌝ }
 {
+    if by == 0 {
+        return;
+    }
     let mut v = 0;
     while v < price.len() {
         let next = moved(rows, by, v, rank[v], integers::natural_at(price, v));

@@ -79,10 +79,10 @@ solved-priced vertexLong edgeLong S = record {
 }
 
 -- The solver's prices certify its subgraph: against them a feasible subgraph has gap 0 just where it weighs as much.
-pub certified : {g : Graph} {bound : List ℤ} (lent : Lent) {x : List ℕ} {vertex edge : List ℤ} → solve g bound lent ≡ yields tt →
+pub certified : {g : Graph} {bound : List ℤ} (index : List ℕ) (lent : Lent) {x : List ℕ} {vertex edge : List ℤ} → solve g bound index lent ≡ yields tt →
     length vertex ≡ vertices g → length edge ≡ g .edges → Solved g bound x vertex edge → (y : List ℕ) → Feasible g bound y → Certified g bound x vertex edge y
-certified {g} {bound} lent {x} {vertex} {edge} e vertexLong edgeLong S y F =
-    let a = solve-passed g bound lent e in
+certified {g} {bound} index lent {x} {vertex} {edge} e vertexLong edgeLong S y F =
+    let a = solve-passed g bound index lent e in
     let taken = measure-takes (a .passed) (a .bounded) F (solved-priced vertexLong edgeLong S) in
     let exact : gapOf g bound y (withoutSets vertex edge)
     ≡ lacks g x y = same-total (totalOf g bound (withoutSets vertex edge)) (weightOf g x) (weightOf g y) (S .noGap) in

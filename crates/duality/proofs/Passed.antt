@@ -18,6 +18,7 @@ use Rattle.graph.specs.declared.Fault.the-variants.{LentLength}
 use Rattle.graph.specs.Limits.{greatestPrice, vertexWords, edgeWords, workspaceNumbers}
 use Rattle.graph.specs.Refusal.{yields, once}
 use Rattle.graph.specs.Graph.{Graph, vertices, columnVertex, columnAt, weightAt, firstEnd, secondEnd, boundAt, upTo, sizesInRange, priceInRange}
+use Rattle.graph.specs.Index.{indexNumbers, indexTest}
 use Rattle.graph.specs.Subgraph.{Feasible, markAt, degree}
 use Rattle.graph.specs.Tests.{graphLengths, graphTests, boundTest, kindTest, isBipartite, markTest, degreeTest}
 use Rattle.graph.proofs.Passing.{every-true, Passes, passes, pass, passes-split, passes-join}
@@ -29,7 +30,7 @@ use Rattle.dual.specs.Prices.{Prices, vertexPrice, edgePrice, setPrice, allPric
 use Rattle.dual.specs.Sets.{nothingAbove, hasVertex, endsInside, oneEndInside, isOdd, keepsRules}
 use Rattle.dual.specs.Gap.{coverOf}
 use Rattle.dual.specs.Measure.{measure, measures, measureLengths, measureTests, priceTest, setTest, coverTest}
-use Rattle.dual.specs.Solve.{Lent, solve, solveLengths}
+use Rattle.dual.specs.Solve.{Lent, solve, solverTests}
 use Rattle.duality.proofs.Conditions.{Incident, DualFeasible}
 
 -- ---- odd sets
@@ -212,10 +213,12 @@ measure-takes {g} {bound} {x} {P} S B F p =
         also eq-eqb (length (P .setEdges)) (edgeWords * P .sets) (p .lengths .setEdges)
 
 -- What the solver's tests show.
-pub record SolvePassed (g : Graph) (bound : List ℤ) (lent : Lent) : Type 0 where
+pub record SolvePassed (g : Graph) (bound : List ℤ) (index : List ℕ) (lent : Lent) : Type 0 where
   pub passed : Passed g
   pub bounded : Bounded (vertices g) bound
   pub bipartite : g .kind ≡ Bipartite
+  pub indexLong : length index ≡ indexNumbers g
+  pub indexPasses : Passes (indexTest g index ∷ [])
   pub fewRows : g .rows ≤ 64
   pub fewColumns : g .columns ≤ 64
   pub rowSide : (e : ℕ) → e < g .edges → firstEnd g e < g .rows
@@ -241,27 +244,29 @@ bipartite-true Bipartite rows columns edges e h =
     }
 bipartite-true General rows columns edges e h = absurd (true≢false (sym e))
 
-pub solve-passed : (g : Graph) (bound : List ℤ) (lent : Lent) → solve g bound lent ≡ yields tt → SolvePassed g bound lent
+pub solve-passed : (g : Graph) (bound : List ℤ) (index : List ℕ) (lent : Lent) → solve g bound index lent ≡ yields tt → SolvePassed g bound index lent
 unfolding solve
-solve-passed g bound lent e =
-    let p = passes (once LentLength (solveLengths g bound lent) ∷ (graphTests g ++ (boundTest g bound ∷ kindTest g ∷ []))) (yields tt) tt e in
+solve-passed g bound index lent e =
+    let p = passes (solverTests g bound index lent) (yields tt) tt e in
     let lengths =
     held (graphLengths g)
-    (eqb (length bound) (vertices g) ∷ eqb (lent .chosen) (g .edges) ∷ eqb (lent .vertexPrices) (vertices g) ∷ eqb (lent .edgePrices) (g .edges)
-    ∷ eqb (lent .workspace) workspaceNumbers ∷ [])
+    (eqb (length bound) (vertices g) ∷ eqb (length index) (indexNumbers g) ∷ eqb (lent .chosen) (g .edges) ∷ eqb (lent .vertexPrices) (vertices g)
+    ∷ eqb (lent .edgePrices) (g .edges) ∷ eqb (lent .workspace) workspaceNumbers ∷ [])
     (p .0 .0 0 (omega arith)) in
-    let later = passes-split (graphTests g) (boundTest g bound ∷ kindTest g ∷ []) (p .0 .1) in
+    let later = passes-split (graphTests g) (boundTest g bound ∷ kindTest g ∷ indexTest g index ∷ []) (p .0 .1) in
     let passed = graph-passed g (lengths .0) (later .0) in
     let sides = bipartite-true (g .kind) (g .rows) (g .columns) (g .edges) (later .1 .1 .0 0 (omega arith)) (later .0 .0 0 (omega arith)) in
     record {
       passed = passed;
       bounded = bounds-passed g bound (eqb-true (length bound) (vertices g) (lengths .1 .0)) (later .1 .0, tt);
       bipartite = sides .bipartite;
+      indexLong = eqb-true (length index) (indexNumbers g) (lengths .1 .1 .0);
+      indexPasses = later .1 .1 .1;
       fewRows = sides .fewRows;
       fewColumns = sides .fewColumns;
       rowSide = λ e l. passed .sound .ends e l .inRows;
       columnSide = λ e l. sides .columnSide (columnAt g e);
-      chosenLong = eqb-true (lent .chosen) (g .edges) (lengths .1 .1 .0);
-      vertexLong = eqb-true (lent .vertexPrices) (vertices g) (lengths .1 .1 .1 .0);
-      edgeLong = eqb-true (lent .edgePrices) (g .edges) (lengths .1 .1 .1 .1 .0);
+      chosenLong = eqb-true (lent .chosen) (g .edges) (lengths .1 .1 .1 .0);
+      vertexLong = eqb-true (lent .vertexPrices) (vertices g) (lengths .1 .1 .1 .1 .0);
+      edgeLong = eqb-true (lent .edgePrices) (g .edges) (lengths .1 .1 .1 .1 .1 .0);
     }

@@ -2,3 +2,4 @@ pub mod Passing
 pub mod Ranges
 pub mod Passed
 pub mod Told
+pub mod Index

@@ -3,4 +3,5 @@ pub mod Refusal
 pub mod Graph
 pub mod Subgraph
 pub mod Tests
+pub mod Index
 pub mod Passed

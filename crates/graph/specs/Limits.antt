@@ -1,5 +1,5 @@
 -- The ranges and lengths of document 01, each once. The code's constants of these names are the same numbers.
-use Prim.Native.Nat.{ℕ, _+_}
+use Prim.Native.Nat.{ℕ, _+_, _*_}
 
 -- At most 64 rows and as many columns in a bipartite graph (dams and sires), and at most 128 vertices in any (families).
 abbrev pub mostSide : ℕ
@@ -54,3 +54,7 @@ subgraphBytes = 16384
 
 abbrev pub workspaceNumbers : ℕ
 workspaceNumbers = 4096
+
+-- An index has an offset for each vertex and one more, and each edge's number twice: at most 2,177 numbers.
+abbrev pub mostIndex : ℕ
+mostIndex = mostVertices + 1 + 2 * mostEdges

@@ -6,9 +6,9 @@ use mathlib.Core.Option.{Option, none, some}
 use lib.ListN.{length, replicate}
 use Rattle.graph.specs.declared.Fault.{Fault}
 use Rattle.graph.specs.declared.Fault.the-variants.{TextLength, Header, SizeLine, Sizes, LaterLine, Ends, Weight, SameEnds}
-use Rattle.graph.specs.declared.Fault.the-variants.{LentLength, Bound, Mark, Degree, Price, OddSet, Uncovered, NotBipartite, Disagreement}
+use Rattle.graph.specs.declared.Fault.the-variants.{LentLength, Bound, Mark, Degree, Price, OddSet, Uncovered, NotBipartite, Disagreement, WrongIndex}
 
--- The refusal table of document 01: each fault's number.
+-- The refusal table of documents 01 and 02: each fault's number.
 abbrev pub numberOf : Fault → ℕ
 -- text over 32,768 bytes
 numberOf TextLength = 1
@@ -44,6 +44,8 @@ numberOf Uncovered = 15
 numberOf NotBipartite = 16
 -- a plan's kind, rows, columns or count disagree with the graph, or its edge is not in it
 numberOf Disagreement = 17
+-- the lent index is not the graph's
+numberOf WrongIndex = 18
 
 -- What a call yields: a result, or a refusal: a fault and its place.
 pub data Outcome (A : Type 0) : Type 0 where

@@ -47,7 +47,15 @@ pub const SUBGRAPH_BYTES: usize = 16384;
 
 pub const WORKSPACE_NUMBERS: usize = 4096;
 
-// What is refused, in the order of document 01's refusal table.
+pub const MOST_INDEX: usize = MOST_VERTICES + 1 + 2 * MOST_EDGES;
+
+// The answer of the two calls on an index: what is lent holds the graph's index, or a refusal.
+pub enum IndexAnswer {
+    Indexed,
+    Refused(Refusal),
+}
+
+// What is refused, in the order of the refusal table.
 pub enum Fault {
     TextLength,
     Header,
@@ -66,6 +74,7 @@ pub enum Fault {
     Uncovered,
     NotBipartite,
     Disagreement,
+    WrongIndex,
 }
 
 // A refusal: what is refused, and its place.
@@ -74,7 +83,7 @@ pub struct Refusal {
     pub place: u64,
 }
 
-// The number of a fault in document 01's refusal table.
+// The number of a fault in the refusal table.
 pub fn number(fault: Fault) -> u32
     ensures { λ r. ⌜ r ≡ numberOf fault ⌝ }
 {
@@ -96,5 +105,6 @@ pub fn number(fault: Fault) -> u32
         Fault::Uncovered => 15,
         Fault::NotBipartite => 16,
         Fault::Disagreement => 17,
+        Fault::WrongIndex => 18,
     }
 }

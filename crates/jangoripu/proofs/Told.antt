@@ -10,7 +10,7 @@ use Rattle.graph.specs.Graph.{Graph, shapeOf}
 use Rattle.graph.proofs.Told.{told-same}
 use Rattle.dual.specs.declared.Measures.{Measures}
 use Rattle.dual.specs.Solve.{Lent, solve, Left}
-use Rattle.jangoripu.specs.Exports.{numberIn, placeIn, shapeTold, lengthTold, measuresTold, GraphRead, Filled, TextWritten, Measured, GraphSolved}
+use Rattle.jangoripu.specs.Exports.{numberIn, placeIn, shapeTold, lengthTold, measuresTold, GraphRead, Filled, Tested, TextWritten, Measured, GraphSolved}
 
 -- A report keeps the number and the place of a refusal.
 pub number-kept : {A B : Type 0} (f : A → B) (W : Outcome A) → numberIn (reported f W) ≡ numberIn W
@@ -42,6 +42,9 @@ filling-told o {W} says holds = record {
   holds = holds;
 }
 
+pub testing-told : (o : Outcome (Unit {0})) {W : Outcome (Unit {0})} → told o ≡ told W → Tested W (numberIn o) (placeIn o)
+testing-told o {W} says = let e = told-same o W says in record { number = ap numberIn e; told = ap placeIn e }
+
 pub text-written :
     (o : Outcome ℕ) {W : Outcome (List ℕ)} {n : ℕ} {out : List ℕ} → told o ≡ told (reported length W) → out ≡ output n 0 (λ t. t) W
     → TextWritten W n (numberIn o) (lengthTold o) out
@@ -52,11 +55,11 @@ text-written o {W} says holds = record {
 }
 
 pub graph-solved :
-    (o : Outcome (Unit {0})) {g : Graph} {bound : List ℤ} {lent : Lent} {x : List ℕ} {vertex edge workspace : List ℤ}
-    → told o ≡ told (solve g bound lent) → Left g bound lent x vertex edge workspace
-    → GraphSolved g bound lent (numberIn o) (placeIn o) x vertex edge workspace
-graph-solved o {g} {bound} {lent} says leaves =
-    let e = told-same o (solve g bound lent) says in record { number = ap numberIn e; told = ap placeIn e; leaves = leaves }
+    (o : Outcome (Unit {0})) {g : Graph} {bound : List ℤ} {index : List ℕ} {lent : Lent} {x : List ℕ} {vertex edge workspace : List ℤ}
+    → told o ≡ told (solve g bound index lent) → Left g bound index lent x vertex edge workspace
+    → GraphSolved g bound index lent (numberIn o) (placeIn o) x vertex edge workspace
+graph-solved o {g} {bound} {index} {lent} says leaves =
+    let e = told-same o (solve g bound index lent) says in record { number = ap numberIn e; told = ap placeIn e; leaves = leaves }
 
 pub measuring-told : (o : Outcome Measures) {W : Outcome Measures} → told o ≡ told W → Measured W (numberIn o) (placeIn o) (measuresTold o)
 measuring-told o {W} says =

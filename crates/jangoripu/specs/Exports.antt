@@ -70,6 +70,11 @@ pub record Filled (N : Type 0) (W : Outcome (List N)) (n : ℕ) (z : N) (r place
   pub told : place ≡ placeIn W
   pub holds : out ≡ output n z (λ xs. xs) W
 
+-- A call that yields W has tested what is lent.
+pub record Tested (W : Outcome (Unit {0})) (r place : ℕ) : Type 0 where
+  pub number : r ≡ numberIn W
+  pub told : place ≡ placeIn W
+
 -- A call that yields W has written a text to an output of n bytes.
 pub record TextWritten (W : Outcome (List ℕ)) (n r : ℕ) (answer out : List ℕ) : Type 0 where
   pub number : r ≡ numberIn W
@@ -82,8 +87,8 @@ pub record Measured (W : Outcome Measures) (r place : ℕ) (numbers : List ℤ) 
   pub told : place ≡ placeIn W
   pub holds : numbers ≡ measuresTold W
 
--- The solver has run on a graph with its bounds: what it returns and tells, and what it leaves in its outputs and the workspace.
-pub record GraphSolved (g : Graph) (bound : List ℤ) (lent : Lent) (r place : ℕ) (x : List ℕ) (vertex edge workspace : List ℤ) : Type 0 where
-  pub number : r ≡ numberIn (solve g bound lent)
-  pub told : place ≡ placeIn (solve g bound lent)
-  pub leaves : Left g bound lent x vertex edge workspace
+-- The solver has run on a graph with its bounds and its index: what it returns and tells, and what it leaves in its outputs and the workspace.
+pub record GraphSolved (g : Graph) (bound : List ℤ) (index : List ℕ) (lent : Lent) (r place : ℕ) (x : List ℕ) (vertex edge workspace : List ℤ) : Type 0 where
+  pub number : r ≡ numberIn (solve g bound index lent)
+  pub told : place ≡ placeIn (solve g bound index lent)
+  pub leaves : Left g bound index lent x vertex edge workspace

@@ -1,10 +1,12 @@
-// The six public calls, exported for C and Rust; include/jangoripu.h declares them.
+// The eight public calls, exported for C and Rust; include/jangoripu.h declares them.
 //
 // Each returns 0 for a result, or the number of a refusal, and tells the refusal's place. A kind is a bool: false for bipartite (two-sided),
 // true for general (one-sided); so is the sort of numbers: false for bounds (limits), true for prices. No other value can be passed.
 use dual::MeasureAnswer;
 use dual::SolveAnswer;
+use graph::IndexAnswer;
 use graph::Kind;
+use graph::Refusal;
 use graph::Shape;
 use layout::GraphAnswer;
 use layout::Numbers;
@@ -18,11 +20,13 @@ ghost use lib.ListN.{length};
 ghost use Rattle.layout.specs.GraphText.{readGraph};
 ghost use Rattle.layout.specs.NumberText.{readNumbers};
 ghost use Rattle.layout.specs.SubgraphText.{readSubgraph, writeSubgraph};
+ghost use Rattle.graph.specs.Refusal.{numberOf};
 ghost use Rattle.graph.specs.Graph.{graphOf};
+ghost use Rattle.graph.specs.Index.{buildIndex, testIndex};
 ghost use Rattle.dual.specs.Prices.{pricesOf};
 ghost use Rattle.dual.specs.Measure.{measure};
 ghost use Rattle.dual.specs.Solve.{lentOf};
-ghost use Rattle.jangoripu.specs.Exports.{kindOf, shapeGiven, kindNumber, numbersOf, GraphRead, Filled, TextWritten, GraphSolved, Measured};
+ghost use Rattle.jangoripu.specs.Exports.{kindOf, shapeGiven, kindNumber, numbersOf, GraphRead, Filled, Tested, TextWritten, GraphSolved, Measured};
 
 // The kind that is passed as a bool.
 fn kind_of(general: bool) -> Kind
@@ -32,6 +36,19 @@ fn kind_of(general: bool) -> Kind
         Kind::General
     } else {
         Kind::Bipartite
+    }
+}
+
+// The shape that is passed as a bool and three numbers.
+fn shape_of(general: bool, rows: u32, columns: u32, edges: u32) -> Shape
+    ensures { λ s. ⌜ (s .kind ≡ kindOf general) × (s .rows ≡ rows) × (s .columns ≡ columns) × (s .edges ≡ edges) ⌝ }
+{
+    let kind = kind_of(general);
+    Shape {
+        kind,
+        rows,
+        columns,
+        edges,
     }
 }
 
@@ -54,6 +71,15 @@ fn kind_number(kind: Kind) -> u64
         Kind::Bipartite => 0,
         Kind::General => 1,
     }
+}
+
+// Tells a refusal's place, and answers its number.
+fn tell(refusal: Refusal, place: &mut u64) -> u32
+    ensures { λ r. ⌜ (r ≡ numberOf (refusal .fault)) × (now (place .exit) ≡ refusal .place) ⌝ }
+{
+    *place = refusal.place;
+    let fault = refusal.fault;
+    graph::number(fault)
 }
 
 // Reads a graph (sheet). The answer tells the place, and kind, rows, columns and the number of edges.
@@ -99,11 +125,7 @@ pub extern "C" fn jangoripu_read_numbers(
             *place = 0;
             0
         }
-        NumbersAnswer::Refused(refusal) => {
-            *place = refusal.place;
-            let fault = refusal.fault;
-            graph::number(fault)
-        }
+        NumbersAnswer::Refused(refusal) => tell(refusal, place),
     }
 }
 
@@ -123,23 +145,13 @@ pub extern "C" fn jangoripu_read_subgraph(
 ) -> u32
     ensures { λ r. ⌜ Filled ℕ (readSubgraph (graphOf (shapeGiven general rows columns edges) (now (row .entry)) (now (column .entry)) (now (weight .entry))) (length (now (chosen .entry))) (now (text .entry))) (length (now (chosen .entry))) 0 r (now (place .exit)) (now (chosen .exit)) ⌝ }
 {
-    let kind = kind_of(general);
-    let s = Shape {
-        kind,
-        rows,
-        columns,
-        edges,
-    };
+    let s = shape_of(general, rows, columns, edges);
     match subgraph_reader::read_subgraph(text, s, row, column, weight, chosen) {
         SubgraphAnswer::Read => {
             *place = 0;
             0
         }
-        SubgraphAnswer::Refused(refusal) => {
-            *place = refusal.place;
-            let fault = refusal.fault;
-            graph::number(fault)
-        }
+        SubgraphAnswer::Refused(refusal) => tell(refusal, place),
     }
 }
 
@@ -159,13 +171,7 @@ pub extern "C" fn jangoripu_write_subgraph(
 ) -> u32
     ensures { λ r. ⌜ TextWritten (writeSubgraph (graphOf (shapeGiven general rows columns edges) (now (row .entry)) (now (column .entry)) (now (weight .entry))) (now (chosen .entry)) (length (now (out .entry)))) (length (now (out .entry))) r (now (answer .exit)) (now (out .exit)) ⌝ }
 {
-    let kind = kind_of(general);
-    let s = Shape {
-        kind,
-        rows,
-        columns,
-        edges,
-    };
+    let s = shape_of(general, rows, columns, edges);
     match subgraph_writer::write_subgraph(s, row, column, weight, chosen, out) {
         TextAnswer::Written(length) => {
             *answer = [0, length as u64];
@@ -179,7 +185,57 @@ pub extern "C" fn jangoripu_write_subgraph(
     }
 }
 
-// Solves a bipartite graph: an optimal subgraph (a plan of largest merit), and prices that prove it.
+// Builds the index of a graph (the pairs of each fish at hand).
+#[no_mangle]
+pub extern "C" fn jangoripu_build_index(
+    general: bool,
+    rows: u32,
+    columns: u32,
+    edges: u32,
+    row: &[u32],
+    column: &[u32],
+    weight: &[i32],
+    index: &mut [u32],
+    place: &mut u64,
+) -> u32
+    ensures { λ r. ⌜ Filled ℕ (buildIndex (graphOf (shapeGiven general rows columns edges) (now (row .entry)) (now (column .entry)) (now (weight .entry))) (length (now (index .entry)))) (length (now (index .entry))) 0 r (now (place .exit)) (now (index .exit)) ⌝ }
+{
+    let s = shape_of(general, rows, columns, edges);
+    match index::build_index(s, row, column, weight, index) {
+        IndexAnswer::Indexed => {
+            *place = 0;
+            0
+        }
+        IndexAnswer::Refused(refusal) => tell(refusal, place),
+    }
+}
+
+// Tests whether a lent index is the graph's.
+#[no_mangle]
+pub extern "C" fn jangoripu_test_index(
+    general: bool,
+    rows: u32,
+    columns: u32,
+    edges: u32,
+    row: &[u32],
+    column: &[u32],
+    weight: &[i32],
+    index: &[u32],
+    place: &mut u64,
+) -> u32
+    ensures { λ r. ⌜ Tested (testIndex (graphOf (shapeGiven general rows columns edges) (now (row .entry)) (now (column .entry)) (now (weight .entry))) (now (index .entry))) r (now (place .exit)) ⌝ }
+{
+    let s = shape_of(general, rows, columns, edges);
+    match index::test_index(s, row, column, weight, index) {
+        IndexAnswer::Indexed => {
+            *place = 0;
+            0
+        }
+        IndexAnswer::Refused(refusal) => tell(refusal, place),
+    }
+}
+
+// Solves a bipartite graph, whose index is lent: an optimal subgraph (a plan of largest merit), and prices that prove it.
 #[no_mangle]
 pub extern "C" fn jangoripu_solve(
     general: bool,
@@ -190,27 +246,23 @@ pub extern "C" fn jangoripu_solve(
     column: &[u32],
     weight: &[i32],
     bound: &[i32],
+    index: &[u32],
     chosen: &mut [u8],
     vertex_price: &mut [i32],
     edge_price: &mut [i32],
     workspace: &mut [i32],
     place: &mut u64,
 ) -> u32
-    ensures { λ r. ⌜ GraphSolved (graphOf (shapeGiven general rows columns edges) (now (row .entry)) (now (column .entry)) (now (weight .entry))) (now (bound .entry)) (lentOf (length (now (chosen .entry))) (length (now («vertex_price» .entry))) (length (now («edge_price» .entry))) (length (now (workspace .entry)))) r (now (place .exit)) (now (chosen .exit)) (now («vertex_price» .exit)) (now («edge_price» .exit)) (now (workspace .exit)) ⌝ }
+    ensures { λ r. ⌜ GraphSolved (graphOf (shapeGiven general rows columns edges) (now (row .entry)) (now (column .entry)) (now (weight .entry))) (now (bound .entry)) (now (index .entry)) (lentOf (length (now (chosen .entry))) (length (now («vertex_price» .entry))) (length (now («edge_price» .entry))) (length (now (workspace .entry)))) r (now (place .exit)) (now (chosen .exit)) (now («vertex_price» .exit)) (now («edge_price» .exit)) (now (workspace .exit)) ⌝ }
 {
-    let kind = kind_of(general);
-    let s = Shape {
-        kind,
-        rows,
-        columns,
-        edges,
-    };
+    let s = shape_of(general, rows, columns, edges);
     match solver::solve(
         s,
         row,
         column,
         weight,
         bound,
+        index,
         chosen,
         vertex_price,
         edge_price,
@@ -220,11 +272,7 @@ pub extern "C" fn jangoripu_solve(
             *place = 0;
             0
         }
-        SolveAnswer::Refused(refusal) => {
-            *place = refusal.place;
-            let fault = refusal.fault;
-            graph::number(fault)
-        }
+        SolveAnswer::Refused(refusal) => tell(refusal, place),
     }
 }
 
@@ -251,13 +299,7 @@ pub extern "C" fn jangoripu_measure(
 ) -> u32
     ensures { λ r. ⌜ Measured (measure (graphOf (shapeGiven general rows columns edges) (now (row .entry)) (now (column .entry)) (now (weight .entry))) (now (bound .entry)) (now (chosen .entry)) (pricesOf (now («vertex_price» .entry)) (now («edge_price» .entry)) sets (now («set_price» .entry)) (now («set_vertices» .entry)) (now («set_edges» .entry)))) r (now (place .exit)) (now (numbers .exit)) ⌝ }
 {
-    let kind = kind_of(general);
-    let s = Shape {
-        kind,
-        rows,
-        columns,
-        edges,
-    };
+    let s = shape_of(general, rows, columns, edges);
     match measure::measure(
         s,
         row,
@@ -287,9 +329,7 @@ pub extern "C" fn jangoripu_measure(
         }
         MeasureAnswer::Refused(refusal) => {
             *numbers = [0, 0, 0, 0, 0, 0, 0];
-            *place = refusal.place;
-            let fault = refusal.fault;
-            graph::number(fault)
+            tell(refusal, place)
         }
     }
 }

@@ -8,10 +8,11 @@ ghost use lib.IntN.{pos};
 ghost use lib.ListN.{length, getD, replicate};
 ghost use Rattle.graph.specs.Limits.{mostVertices};
 ghost use Rattle.graph.specs.Graph.{graphOf, verticesIn, firstEnd};
+ghost use Rattle.graph.specs.Index.{indexOf};
 ghost use Rattle.graph.specs.Passed.{Passed, Bounded};
 ghost use Rattle.dual.specs.Solve.{Solved};
 ghost use Rattle.tree.specs.Method.{level, value, Solvable};
-ghost use Rattle.tree.specs.Tree.{entries, levels, Levelled};
+ghost use Rattle.tree.specs.Tree.{entries, levels, Levelled, Degrees};
 ghost use Rattle.optimiser.specs.Optimiser.{Raised, Started, unserved, Served, Payable, edgePriceOf};
 
 // Raises the price of edge e's row vertex to the edge's weight, if it is not as high already.
@@ -58,43 +59,72 @@ fn serve(
     column: &[u32],
     weight: &[i32],
     bound: &[i32],
+    index: &[u32],
     chosen: &mut [u8],
     price: &mut [i32],
+    degree: &mut [u32; MOST_VERTICES],
     t: usize,
 )
     requires { ⌜ Solvable (graphOf s (now row) (now column) (now weight)) ⌝ }
+    requires { ⌜ now index ≡ indexOf (graphOf s (now row) (now column) (now weight)) ⌝ }
+    requires { ⌜ Degrees (graphOf s (now row) (now column) (now weight)) (now chosen) (entries (now degree)) ⌝ }
     requires { ⌜ (t < s .rows) × (length (now bound) ≡ verticesIn s) × (length (now price) ≡ verticesIn s) ⌝ }
     requires { ⌜ Served (graphOf s (now row) (now column) (now weight)) (now bound) t (now chosen) (levels (now price)) ⌝ }
     ensures { λ _. ⌜ Served (graphOf s (now (row .entry)) (now (column .entry)) (now (weight .entry))) (now (bound .entry)) (t + 1) (now (chosen .exit)) (levels (now (price .exit))) ⌝ }
+    ensures { λ _. ⌜ Degrees (graphOf s (now (row .entry)) (now (column .entry)) (now (weight .entry))) (now (chosen .exit)) (entries (now (degree .exit))) ⌝ }
 {
     loop {
-        let degree = checks::degrees(s, row, column, chosen);
-        if is_unserved(bound, price, &degree, t) {
-            search::search(s, row, column, weight, bound, chosen, price, &degree, t);
+        if is_unserved(bound, price, degree, t) {
+            search::search(
+                s,
+                row,
+                column,
+                weight,
+                bound,
+                index,
+                chosen,
+                price,
+                degree,
+                t,
+            );
         } else {
             return;
         }
     }
 }
 
-// Serves each row vertex in turn.
+// Serves each row vertex in turn. The degrees are counted once, and kept.
 fn serve_all(
     s: Shape,
     row: &[u32],
     column: &[u32],
     weight: &[i32],
     bound: &[i32],
+    index: &[u32],
     chosen: &mut [u8],
     price: &mut [i32],
 )
     requires { ⌜ Solvable (graphOf s (now row) (now column) (now weight)) ⌝ }
+    requires { ⌜ now index ≡ indexOf (graphOf s (now row) (now column) (now weight)) ⌝ }
     requires { ⌜ (length (now bound) ≡ verticesIn s) × (length (now price) ≡ verticesIn s) ⌝ }
     requires { ⌜ Served (graphOf s (now row) (now column) (now weight)) (now bound) 0 (now chosen) (levels (now price)) ⌝ }
     ensures { λ _. ⌜ Served (graphOf s (now (row .entry)) (now (column .entry)) (now (weight .entry))) (now (bound .entry)) (s .rows) (now (chosen .exit)) (levels (now (price .exit))) ⌝ }
 {
+    let mut degree = checks::degrees(s, row, column, chosen);
     let mut t = 0;
     while t < s.rows as usize {
-        serve(s, row, column, weight, bound, chosen, price, t);
+        serve(
+            s,
+            row,
+            column,
+            weight,
+            bound,
+            index,
+            chosen,
+            price,
+            &mut degree,
+            t,
+        );
         t += 1;
     }
 }
@@ -162,18 +192,20 @@ pub fn optimise(
     column: &[u32],
     weight: &[i32],
     bound: &[i32],
+    index: &[u32],
     chosen: &mut [u8],
     price: &mut [i32],
     edge: &mut [i32],
 )
     requires { ⌜ Solvable (graphOf s (now row) (now column) (now weight)) ⌝ }
+    requires { ⌜ now index ≡ indexOf (graphOf s (now row) (now column) (now weight)) ⌝ }
     requires { ⌜ Bounded (verticesIn s) (now bound) ⌝ }
     requires { ⌜ (length (now price) ≡ verticesIn s) × (length (now edge) ≡ s .edges) ⌝ }
     requires { ⌜ now chosen ≡ replicate (s .edges) 0 ⌝ }
     ensures { λ _. ⌜ Solved (graphOf s (now (row .entry)) (now (column .entry)) (now (weight .entry))) (now (bound .entry)) (now (chosen .exit)) (now (price .exit)) (now (edge .exit)) ⌝ }
 {
     first_prices(s, row, column, weight, price);
-    serve_all(s, row, column, weight, bound, chosen, price);
+    serve_all(s, row, column, weight, bound, index, chosen, price);
     edge_prices(s, row, column, weight, chosen, price, edge);
     lower(price);
 }

@@ -1,28 +1,30 @@
 -- The promises are kept.
 use Prim.Native.Nat.{ℕ, _*_, _≤_, _<_}
-use mathlib.Core.Path.{_≡_, refl, sym, ap, ap₂, _∙_}
+use mathlib.Core.Path.{_≡_, refl, sym, ap, ap₂, _∙_, subst}
 use mathlib.Core.Logic.{_⊎_, inl, inr, _↔_}
 use mathlib.Core.Bool.{true, _&&_}
 use mathlib.Core.List.{List, [], _∷_}
 use native.Mathlib.Omega.{arith}
 use lib.Dec.{eqb, lit≤}
 use lib.IntN.{ℤ, pos, _-ℤ_}
-use lib.ListN.{replicate, length-replicate, getD-replicate}
+use lib.ListN.{length, replicate, length-replicate, getD-replicate}
 use lib.Signed.{_≤ℤ_}
 use borrow.Author.Tests.{eq-eqb}
 use Rattle.integers.proofs.Order.{between-true, ≤ℤ-antisym}
 use Rattle.integers.proofs.Sum.{sum-none}
 use Rattle.graph.specs.declared.Fault.{Fault}
 use Rattle.graph.specs.declared.Fault.the-variants.{TextLength, Header, SizeLine, Sizes, LaterLine, Ends, Weight, SameEnds}
-use Rattle.graph.specs.declared.Fault.the-variants.{LentLength, Bound, Mark, Degree, Price, OddSet, Uncovered, NotBipartite, Disagreement}
+use Rattle.graph.specs.declared.Fault.the-variants.{LentLength, Bound, Mark, Degree, Price, OddSet, Uncovered, NotBipartite, Disagreement, WrongIndex}
 use Rattle.graph.specs.Limits.{mostEdges, mostNumbers, greatestPrice}
 use Rattle.graph.specs.Refusal.{numberOf, Outcome, yields, refuses, Told, told, refusedWith, Test, once, passing, output}
 use Rattle.graph.specs.Graph.{Graph, vertices, boundAt, upTo}
 use Rattle.graph.specs.Subgraph.{markAt, endsAt, degree, Feasible, weightOf}
 use Rattle.graph.specs.Tests.{graphLengths, graphTests, boundTest}
+use Rattle.graph.specs.Index.{indexOf, indexNumbers, indexTest, buildTests, buildIndex, indexTests, testIndex}
 use Rattle.graph.specs.Passed.{Passed, Bounded}
-use Rattle.graph.proofs.Passing.{zero-one, passes, pass, goOn, passing-on, once-passes, once-yields}
+use Rattle.graph.proofs.Passing.{zero-one, passes, pass, passes-join, goOn, passing-on, once-passes, once-yields}
 use Rattle.graph.proofs.Passed.{graph-passed, bounds-passed}
+use Rattle.graph.proofs.Index.{given-index, index-built, index-tested}
 use Rattle.graph.proofs.Ranges.{_also_}
 use Rattle.layout.specs.Text.{textFits}
 use Rattle.layout.specs.Lines.{readText}
@@ -37,7 +39,8 @@ use Rattle.duality.proofs.Passed.{Priced, measure-takes, solve-passed}
 use Rattle.duality.proofs.Measured.{measured, certified}
 use Rattle.readback.proofs.ReadBack.{read-back, written-apart}
 use Rattle.promises.specs.Promises.{Listed, Refuses, ZeroAfterRefusal, Passing, Refusing, ReadAsDefined, ReadsBack, LargestMerit, RefusedJustWhereListed}
-use Rattle.promises.specs.Promises.{SolverCertifies, Accepts, Covers, MeasuredMeans, OptimumExists}
+use Rattle.promises.specs.Promises.{SolverCertifies, Accepts, Covers, MeasuredMeans, OptimumExists, ListsEdges, IndexListsEdges, OneIndex}
+use Rattle.promises.proofs.Listing.{lists-edges}
 
 -- ---- Demand 1
 
@@ -59,8 +62,9 @@ least-number OddSet = lit≤ tt
 least-number Uncovered = lit≤ tt
 least-number NotBipartite = lit≤ tt
 least-number Disagreement = lit≤ tt
+least-number WrongIndex = lit≤ tt
 
-most-number : (f : Fault) → numberOf f ≤ 17
+most-number : (f : Fault) → numberOf f ≤ 18
 most-number TextLength = lit≤ tt
 most-number Header = lit≤ tt
 most-number SizeLine = lit≤ tt
@@ -78,6 +82,7 @@ most-number OddSet = lit≤ tt
 most-number Uncovered = lit≤ tt
 most-number NotBipartite = lit≤ tt
 most-number Disagreement = lit≤ tt
+most-number WrongIndex = lit≤ tt
 
 pub listed : Listed
 listed = record { least = least-number; most = most-number }
@@ -90,8 +95,8 @@ refused-by (refuses f q) i p e = (f, ap (refuses f) (let s : q ≡ p = cc in s))
 pub zero-after-refusal : ZeroAfterRefusal
 zero-after-refusal = record {
   outputs = λ n z f W i p e. ap (output n z f) (refused-by W i p e .1);
-  solver = λ g bound lent x vertex edge workspace L i p e.
-      let r = refused-by (solve g bound lent) i p e in (L .refused (r .0) p (r .1), L .cleared);
+  solver = λ g bound index lent x vertex edge workspace L i p e.
+      let r = refused-by (solve g bound index lent) i p e in (L .refused (r .0) p (r .1), L .cleared);
 }
 
 -- ---- Demand 2
@@ -130,7 +135,7 @@ pub reads-back : ReadsBack
 reads-back = record { back = read-back; apart = written-apart }
 
 pub largest-merit : LargestMerit
-largest-merit g bound lent x vertex edge workspace L e = let O = L .solved e .optimal in (O .feasible, O .most)
+largest-merit g bound index lent x vertex edge workspace L e = let O = L .solved e .optimal in (O .feasible, O .most)
 
 -- What is told of a refusal does not depend on what would be yielded.
 told-alike : {A B : Type 0} {n q i p : ℕ} → _≡_ {A = Told A} (refusedWith n q) (refusedWith i p) → _≡_ {A = Told B} (refusedWith n q) (refusedWith i p)
@@ -161,9 +166,9 @@ module _ {A : Type 0} (ts : List Test) (rest : Outcome A) (i p : ℕ) where
       alone (inl e) = e
       alone (inr w) = zero-one (let z : told (yields a) ≡ refusedWith i p = sym (ap told is) ∙ w .1 in cc)
 
-solver-refuses : (g : Graph) (bound : List ℤ) (lent : _) (i p : ℕ) → Refuses (solve g bound lent) i p ↔ Refusing (solverTests g bound lent) i p
+solver-refuses : (g : Graph) (bound : List ℤ) (index : List ℕ) (lent : _) (i p : ℕ) → Refuses (solve g bound index lent) i p ↔ Refusing (solverTests g bound index lent) i p
 unfolding solve
-solver-refuses g bound lent i p = (λ e. e, λ e. e)
+solver-refuses g bound index lent i p = (λ e. e, λ e. e)
 
 measuring-refuses : (g : Graph) (bound : List ℤ) (x : List ℕ) (P : Prices) (i p : ℕ) → Refuses (measure g bound x P) i p ↔ Refusing (measureTests g bound x P) i p
 unfolding measure
@@ -188,11 +193,21 @@ subgraph-reader-refuses : (g : Graph) (n : ℕ) (text : List ℕ) (i p : ℕ) �
 unfolding readSubgraph
 subgraph-reader-refuses g n text i p = refused-just (subgraphReaderTests g n text) (readText (subgraphLayout g) text) i p
 
+index-builder-refuses : (g : Graph) (n : ℕ) (i p : ℕ) → Refuses (buildIndex g n) i p ↔ Refusing (buildTests g n) i p
+unfolding buildIndex
+index-builder-refuses g n i p = tests-alone (buildTests g n) (yields (indexOf g)) i p (indexOf g) refl
+
+index-tester-refuses : (g : Graph) (index : List ℕ) (i p : ℕ) → Refuses (testIndex g index) i p ↔ Refusing (indexTests g index) i p
+unfolding testIndex
+index-tester-refuses g index i p = (λ e. e, λ e. e)
+
 pub refused-just-where-listed : RefusedJustWhereListed
 refused-just-where-listed = record {
   solver = solver-refuses;
   measuring = measuring-refuses;
   writer = writer-refuses;
+  indexBuilder = index-builder-refuses;
+  indexTester = index-tester-refuses;
   graphReader = graph-reader-refuses;
   numberReader = number-reader-refuses;
   subgraphReader = subgraph-reader-refuses;
@@ -201,15 +216,15 @@ refused-just-where-listed = record {
 -- ---- Demand 3
 
 pub solver-certifies : SolverCertifies
-solver-certifies g bound lent x vertex edge workspace L e =
+solver-certifies g bound index lent x vertex edge workspace L e =
     let S = L .solved e in
-    let a = solve-passed g bound lent e in
+    let a = solve-passed g bound index lent e in
     record {
       vertexRange = S .vertexRange;
       edgeRange = S .edgeRange;
       covering = S .covering;
       exact = λ y F.
-          let c = certified lent e (L .vertexLong ∙ a .vertexLong) (L .edgeLong ∙ a .edgeLong) S y F in
+          let c = certified index lent e (L .vertexLong ∙ a .vertexLong) (L .edgeLong ∙ a .edgeLong) S y F in
           (c .numbers, c .measured, c .noGap);
     }
 
@@ -260,3 +275,26 @@ optimum-exists = record {
   some = λ g bound A. some-optimal g bound (replicate (g .edges) 0) (none-chosen g bound A);
   same = λ g bound x y z X Y. ap (λ w. w -ℤ weightOf g z) (≤ℤ-antisym (Y .most x (X .feasible)) (X .most y (Y .feasible)));
 }
+
+-- ---- Request U1
+
+pub index-lists-edges : IndexListsEdges
+index-lists-edges g index e = let p = index-tested g index e in subst (ListsEdges g) (sym (p .is)) (lists-edges g (p .passed .sound))
+
+built-passes : (g : Graph) (n : ℕ) (index : List ℕ) → buildIndex g n ≡ yields index → testIndex g index ≡ yields tt
+unfolding testIndex
+built-passes g n index e =
+    let p = index-built g n index e in
+    let long = eq-eqb (length index) (indexNumbers g) (p .long ∙ p .lent) in
+    pass (indexTests g index) (λ k l. p .lengths also long, passes-join (graphTests g) (indexTest g index ∷ []) (p .tests) (given-index g index (p .is)))
+    (yields tt)
+
+passed-built : (g : Graph) (index : List ℕ) → testIndex g index ≡ yields tt → buildIndex g (length index) ≡ yields index
+unfolding buildIndex
+passed-built g index e =
+    let p = index-tested g index e in
+    pass (buildTests g (length index)) (λ k l. p .lengths also eq-eqb (length index) (indexNumbers g) (p .lent), p .tests) (yields (indexOf g))
+    ∙ ap (λ (xs : List ℕ). yields xs) (sym (p .is))
+
+pub one-index : OneIndex
+one-index = record { passes = built-passes; only = passed-built }

@@ -1,21 +1,23 @@
--- The promises: each sentence of the three demands, as a statement over what the calls yield and leave, in the order of the demands.
+-- The promises: each sentence of the three demands and of the requests, as a statement over what the calls yield and leave, in their order.
 -- What a call's contract says, that its answer and all that is lent to it are what these definitions yield, is proved of its code, and so is that
 -- it touches memory only within what is lent, and ends.
-use Prim.Native.Nat.{ℕ, _*_, _≤_, _<_}
+use Prim.Native.Nat.{ℕ, suc, _+_, _*_, _-_, _≤_, _<_}
 use mathlib.Core.Path.{_≡_}
-use mathlib.Core.Logic.{_⊎_, _↔_}
+use mathlib.Core.Logic.{_≢_, _⊎_, _↔_}
 use mathlib.Core.Bool.{true}
 use mathlib.Core.List.{List, [], _∷_}
 use lib.IntN.{ℤ, pos}
-use lib.ListN.{length, replicate}
+use lib.ListN.{length, getD, replicate, take, drop}
 use lib.Signed.{_≤ℤ_}
+use Rattle.integers.specs.Sum.{is}
 use Rattle.graph.specs.declared.Fault.{Fault}
 use Rattle.graph.specs.declared.Fault.the-variants.{LentLength}
 use Rattle.graph.specs.Limits.{mostEdges, mostNumbers, mostSets, vertexWords, edgeWords}
 use Rattle.graph.specs.Refusal.{numberOf, Outcome, yields, told, refusedWith, Test, once, lowest, passing, output}
-use Rattle.graph.specs.Graph.{Graph, vertices, weightAt, upTo, priceInRange}
+use Rattle.graph.specs.Graph.{Graph, vertices, firstEnd, secondEnd, weightAt, upTo, priceInRange}
 use Rattle.graph.specs.Subgraph.{Feasible, Optimal, weightOf, lacks}
 use Rattle.graph.specs.Tests.{graphLengths, graphTests, boundTest}
+use Rattle.graph.specs.Index.{buildTests, buildIndex, indexTests, testIndex}
 use Rattle.layout.specs.declared.Numbers.{Numbers}
 use Rattle.layout.specs.Text.{textFits}
 use Rattle.layout.specs.Lines.{readText}
@@ -35,7 +37,7 @@ use Rattle.duality.specs.Meaning.{Meaning}
 -- "Each call .. gives a listed refusal or a result": what a call yields is a result or a refusal, and each refusal has a number of the table.
 pub record Listed : Type 0 where
   pub least : (f : Fault) → 1 ≤ numberOf f
-  pub most : (f : Fault) → numberOf f ≤ 17
+  pub most : (f : Fault) → numberOf f ≤ 18
 
 -- A call refuses with this number of the table at this place. Its answer says the same, by its contract (layout, specs/Answers.antt, and dual).
 abbrev pub Refuses : {A : Type 0} → Outcome A → ℕ → ℕ → Type 0
@@ -45,8 +47,8 @@ Refuses o number place = told o ≡ refusedWith number place
 -- solver's, and its workspace.
 pub record ZeroAfterRefusal : Type 1 where
   pub outputs : {A N : Type 0} (n : ℕ) (z : N) (f : A → List N) (W : Outcome A) (i p : ℕ) → Refuses W i p → output n z f W ≡ replicate n z
-  pub solver : (g : Graph) (bound : List ℤ) (lent : Lent) (x : List ℕ) (vertex edge workspace : List ℤ) → Left g bound lent x vertex edge workspace →
-      (i p : ℕ) → Refuses (solve g bound lent) i p → Zero lent x vertex edge × (workspace ≡ replicate (lent .workspace) (pos 0))
+  pub solver : (g : Graph) (bound : List ℤ) (index : List ℕ) (lent : Lent) (x : List ℕ) (vertex edge workspace : List ℤ) → Left g bound index lent x vertex edge workspace →
+      (i p : ℕ) → Refuses (solve g bound index lent) i p → Zero lent x vertex edge × (workspace ≡ replicate (lent .workspace) (pos 0))
 
 -- ---- Demand 2
 
@@ -75,15 +77,17 @@ pub record ReadsBack : Type 0 where
 -- "The solver's plan is within the limits and of largest merit."
 abbrev pub LargestMerit : Type 0
 LargestMerit =
-    (g : Graph) (bound : List ℤ) (lent : Lent) (x : List ℕ) (vertex edge workspace : List ℤ) → Left g bound lent x vertex edge workspace →
-    solve g bound lent ≡ yields tt → Feasible g bound x × ((y : List ℕ) → Feasible g bound y → weightOf g y ≤ℤ weightOf g x)
+    (g : Graph) (bound : List ℤ) (index : List ℕ) (lent : Lent) (x : List ℕ) (vertex edge workspace : List ℤ) → Left g bound index lent x vertex edge workspace →
+    solve g bound index lent ≡ yields tt → Feasible g bound x × ((y : List ℕ) → Feasible g bound y → weightOf g y ≤ℤ weightOf g x)
 
 -- "Refusals come in the listed situations and in no others": a call refuses with a number at a place just where its tests do, and a reader also where
 -- the lines do.
 pub record RefusedJustWhereListed : Type 0 where
-  pub solver : (g : Graph) (bound : List ℤ) (lent : Lent) (i p : ℕ) → Refuses (solve g bound lent) i p ↔ Refusing (solverTests g bound lent) i p
+  pub solver : (g : Graph) (bound : List ℤ) (index : List ℕ) (lent : Lent) (i p : ℕ) → Refuses (solve g bound index lent) i p ↔ Refusing (solverTests g bound index lent) i p
   pub measuring : (g : Graph) (bound : List ℤ) (x : List ℕ) (P : Prices) (i p : ℕ) → Refuses (measure g bound x P) i p ↔ Refusing (measureTests g bound x P) i p
   pub writer : (g : Graph) (x : List ℕ) (n : ℕ) (i p : ℕ) → Refuses (writeSubgraph g x n) i p ↔ Refusing (writerTests g x n) i p
+  pub indexBuilder : (g : Graph) (n : ℕ) (i p : ℕ) → Refuses (buildIndex g n) i p ↔ Refusing (buildTests g n) i p
+  pub indexTester : (g : Graph) (index : List ℕ) (i p : ℕ) → Refuses (testIndex g index) i p ↔ Refusing (indexTests g index) i p
   pub graphReader : (r c w : ℕ) (text : List ℕ) (i p : ℕ) → Refuses (readGraph r c w text) i p ↔
       (Refusing (graphReaderTests r c w text) i p ⊎ (Passing (graphReaderTests r c w text) × Refuses (readText graphLayout text) i p))
   pub numberReader : (what : Numbers) (count n : ℕ) (text : List ℕ) (i p : ℕ) → Refuses (readNumbers what count n text) i p ↔
@@ -105,8 +109,8 @@ pub record Certifies (g : Graph) (bound : List ℤ) (x : List ℕ) (vertex edge 
 -- "The solver's prices are in range and cover every pair, and a plan within the limits has the solver's merit exactly when its measured gap is 0."
 abbrev pub SolverCertifies : Type 0
 SolverCertifies =
-    (g : Graph) (bound : List ℤ) (lent : Lent) (x : List ℕ) (vertex edge workspace : List ℤ) → Left g bound lent x vertex edge workspace →
-    solve g bound lent ≡ yields tt → Certifies g bound x vertex edge
+    (g : Graph) (bound : List ℤ) (index : List ℕ) (lent : Lent) (x : List ℕ) (vertex edge workspace : List ℤ) → Left g bound index lent x vertex edge workspace →
+    solve g bound index lent ≡ yields tt → Certifies g bound x vertex edge
 
 -- A graph with its bounds passes: its lengths, its numbers and the bounds'.
 pub record Accepts (g : Graph) (bound : List ℤ) : Type 0 where
@@ -139,3 +143,33 @@ MeasuredMeans =
 pub record OptimumExists : Type 0 where
   pub some : (g : Graph) (bound : List ℤ) → Accepts g bound → (x : List ℕ) × Optimal g bound x
   pub same : (g : Graph) (bound : List ℤ) (x y z : List ℕ) → Optimal g bound x → Optimal g bound y → lacks g x z ≡ lacks g y z
+
+-- ---- Request U1
+
+-- How often a number stands in a list.
+abbrev pub occurs : ℕ → List ℕ → ℕ
+occurs k [] = 0
+occurs k (x ∷ xs) = is x k + occurs k xs
+
+-- The edge numbers of an index of n vertices, which follow its n + 1 offsets; and those of vertex v, which stand there from its offset to the next.
+abbrev pub edgeNumbers : ℕ → List ℕ → List ℕ
+edgeNumbers n index = drop (suc n) index
+
+abbrev pub numbersUnder : ℕ → List ℕ → ℕ → List ℕ
+numbersUnder n index v = take (getD index (suc v) 0 - getD index v 0) (drop (getD index v 0) (edgeNumbers n index))
+
+-- The index lists each edge twice, once under each end, and under no other vertex.
+pub record ListsEdges (g : Graph) (index : List ℕ) : Type 0 where
+  pub twice : (e : ℕ) → e < g .edges → occurs (suc e) (edgeNumbers (vertices g) index) ≡ 2
+  pub underFirst : (e : ℕ) → e < g .edges → occurs (suc e) (numbersUnder (vertices g) index (firstEnd g e)) ≡ 1
+  pub underSecond : (e : ℕ) → e < g .edges → occurs (suc e) (numbersUnder (vertices g) index (secondEnd g e)) ≡ 1
+  pub underNoOther : (v e : ℕ) → v < vertices g → e < g .edges → firstEnd g e ≢ v → secondEnd g e ≢ v → occurs (suc e) (numbersUnder (vertices g) index v) ≡ 0
+
+-- "An index that passes lists each pair exactly twice, once under each end."
+abbrev pub IndexListsEdges : Type 0
+IndexListsEdges = (g : Graph) (index : List ℕ) → testIndex g index ≡ yields tt → ListsEdges g index
+
+-- "The lent index is not the sheet's": just one list is a graph's index, the one that is built. It passes, and no other does.
+pub record OneIndex : Type 0 where
+  pub passes : (g : Graph) (n : ℕ) (index : List ℕ) → buildIndex g n ≡ yields index → testIndex g index ≡ yields tt
+  pub only : (g : Graph) (index : List ℕ) → testIndex g index ≡ yields tt → buildIndex g (length index) ≡ yields index

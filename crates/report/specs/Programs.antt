@@ -12,6 +12,7 @@ use Rattle.graph.specs.Limits.{mostVertices, mostEdges, subgraphBytes, workspac
 use Rattle.graph.specs.Refusal.{Outcome, yields, refuses, once, passing, filled}
 use Rattle.graph.specs.Graph.{Graph, vertices}
 use Rattle.graph.specs.Subgraph.{Optimal}
+use Rattle.graph.specs.Index.{indexNumbers, buildIndex}
 use Rattle.layout.specs.declared.Numbers.the-variants.{Bounds, Prices}
 use Rattle.layout.specs.GraphText.{readGraph}
 use Rattle.layout.specs.NumberText.{readNumbers}
@@ -88,12 +89,15 @@ unfoldable pub markOutput : List ℕ → List ℕ → List ℕ → List ℕ → 
 markOutput sheet limits plan prices =
     written measuredLine (andThen (problemOf sheet limits) (λ P. markProblem (P .graph) (P .bound) plan prices))
 
--- `solve` lends the solver just the lengths that the graph gives.
+-- `solve` builds the graph's index, and lends the solver just the lengths that the graph gives.
 abbrev pub lentFor : Graph → Lent
 lentFor g = record { chosen = g .edges; vertexPrices = vertices g; edgePrices = g .edges; workspace = workspaceNumbers }
 
+abbrev pub solveIndexed : Graph → List ℤ → List ℕ → Run (Unit {0})
+solveIndexed g bound index = cameFrom Source.Input (solve g bound index (lentFor g))
+
 abbrev pub solveProblem : Graph → List ℤ → Run (Unit {0})
-solveProblem g bound = cameFrom Source.Input (solve g bound (lentFor g))
+solveProblem g bound = andThen (cameFrom Source.Input (buildIndex g (indexNumbers g))) (solveIndexed g bound)
 
 -- What `solve` writes where x is the subgraph that it picks.
 unfoldable pub solveOutput : List ℕ → List ℕ → List ℕ → List ℕ

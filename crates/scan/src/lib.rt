@@ -1,15 +1,24 @@
 // The scan of a labelled vertex: each edge from it is looked at.
 use graph::MOST_VERTICES;
 use graph::Shape;
-ghost use Prim.Native.Nat.{_-_, _≤_, _<_};
+ghost use Prim.Native.Nat.{_+_, _-_, _≤_, _<_};
 ghost use mathlib.Core.Path.{_≡_};
-ghost use lib.ListN.{length};
+ghost use lib.ListN.{length, getD};
 ghost use Rattle.graph.specs.Limits.{mostVertices};
 ghost use Rattle.graph.specs.Graph.{graphOf, verticesIn};
 ghost use Rattle.graph.specs.Passed.{Passed};
 ghost use Rattle.tree.specs.Method.{Solvable};
 ghost use Rattle.tree.specs.Tree.{entries, levels, Levelled, NotedInside, slack, FreeColumn};
 ghost use Rattle.scan.specs.Scan.{Decides, Visited};
+
+// The edge at place k of an index of n vertices, where the places follow the n + 1 offsets.
+pub fn edge_at(index: &[u32], n: usize, k: u32) -> usize
+    requires { ⌜ (n ≤ mostVertices) × (n + 1 + k < length (now index)) × (0 < getD (now index) (n + 1 + k) 0) ⌝ }
+    ensures { λ e. ⌜ e + 1 ≡ getD (now (index .entry)) (n + 1 + k) 0 ⌝ }
+{
+    let at = n + 1 + k as usize;
+    (index[at] - 1) as usize
+}
 
 // Whether vertex v is a column vertex that is not saturated.
 pub fn is_free(rows: u32, bound: &[i32], degree: &[u32; MOST_VERTICES], v: usize) -> bool

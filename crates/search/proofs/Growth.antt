@@ -14,6 +14,8 @@ use Rattle.integers.proofs.Sum.{is-same, sum-term}
 use Rattle.graph.specs.declared.Shape.{Shape}
 use Rattle.graph.specs.Graph.{Graph, graphOf, vertices}
 use Rattle.graph.specs.Subgraph.{degree}
+use Rattle.graph.specs.Index.{isEnd, offset, indexOf}
+use Rattle.graph.proofs.Index.{count-more, seen, offset-next}
 use Rattle.tree.specs.Method.{limit, Solvable, Good, Labels, Augmented}
 use Rattle.augment.specs.Augment.{Walkable}
 use Rattle.tree.specs.declared.Tree.{Tree}
@@ -26,6 +28,7 @@ use Rattle.tree.proofs.Step.{stepped, at-level, at-tight}
 use Rattle.tree.proofs.End.{searching, end-row, end-column, goes-on}
 use Rattle.scan.specs.Scan.{EndsPath}
 use Rattle.search.specs.Search.{Advanced}
+use Rattle.search.proofs.Places.{At, start, place-in, some, at, tail-end, none-between, seen-more}
 
 -- What the outer loop keeps, before vertex u is scanned.
 pub record Growing (g : Graph) (bound : List ℤ) (x : List ℕ) (price₀ price : List ℤ) (t : Tree) (near : List ℕ) (root u : ℕ) : Type 0 where
@@ -35,11 +38,18 @@ pub record Growing (g : Graph) (bound : List ℤ) (x : List ℕ) (price₀ price
   pub rank-long : length (t .rank) ≡ 128
   pub near-long : length near ≡ 128
 
--- What the inner loop keeps, before edge e is looked at: the tree stays.
-pub record Scanning (g : Graph) (x : List ℕ) (price : List ℤ) (t₀ t : Tree) (near : List ℕ) (e : ℕ) : Type 0 where
+-- What a scan keeps when the edges before e were looked at: the tree stays.
+pub record Looked (g : Graph) (x : List ℕ) (price : List ℤ) (t₀ t : Tree) (near : List ℕ) (e : ℕ) : Type 0 where
   pub same : t ≡ t₀
   pub notes : Near (g .edges) (tail g x) (head g x) (slack g (levels price)) (entries (t .rank)) (entries near) (t .count) e
   pub near-long : length near ≡ 128
+
+-- What the inner loop keeps, before place k of the index: the edges before some edge were looked at, and those of vertex u among them stand before k.
+pub record Scanning (g : Graph) (x : List ℕ) (price : List ℤ) (t₀ t : Tree) (near : List ℕ) (u k : ℕ) : Type 0 where
+  pub before : ℕ
+  pub among : before ≤ g .edges
+  pub looked : Looked g x price t₀ t near before
+  pub place : k ≡ offset g u + seen g u before
 
 blank : (w : ℕ) → entries (replicate 128 0) w ≡ 0
 blank w =
@@ -80,11 +90,16 @@ growing {g} {bound} {price} {x} {t} {root} net good low r = record {
 
 module _ {g : Graph} {bound : List ℤ} {x : List ℕ} {price₀ price : List ℤ} {t₀ : Tree} {near₀ : List ℕ} {root u : ℕ}
     (o : Growing g bound x price₀ price t₀ near₀ root u) where
-  pub scanning : Scanning g x price t₀ t₀ near₀ 0
-  scanning = record { same = refl; notes = o .search .notes; near-long = o .near-long }
+  pub scanning : {k : ℕ} → k ≡ offset g u → Scanning g x price t₀ t₀ near₀ u k
+  scanning e = record {
+    before = 0;
+    among = omega arith;
+    looked = record { same = refl; notes = o .search .notes; near-long = o .near-long };
+    place = omega (arith, e, (let z : seen g u 0 ≡ 0 = refl in z));
+  }
 
   -- The state within a scan.
-  module _ {t : Tree} {near : List ℕ} {e : ℕ} (i : Scanning g x price t₀ t near e) where
+  module _ {t : Tree} {near : List ℕ} {e : ℕ} (i : Looked g x price t₀ t near e) where
     pub within : Searching g bound x (levels price₀) (levels price) (entries (t .label)) (entries (t .rank)) (entries near) root (t .count) u e
     within =
         let s = subst
@@ -103,18 +118,22 @@ module _ {g : Graph} {bound : List ℤ} {x : List ℕ} {price₀ price : List �
 
     -- After an edge at which no path ends.
     pub scanned : {near′ : List ℕ} → Solvable g → e < g .edges →
-        Noted (tail g x) (head g x) (slack g (levels price)) (entries (t .rank)) u e near near′ → Scanning g x price t₀ t near′ (e + 1)
+        Noted (tail g x) (head g x) (slack g (levels price)) (entries (t .rank)) u e near near′ → Looked g x price t₀ t near′ (e + 1)
     scanned net l n = record {
       same = i .same;
       notes = near-more {g = g} l count-some (within .newest) (omega (arith, head-in net x e l, few net, i .near-long)) (i .notes) n;
       near-long = noted-long n ∙ i .near-long;
     }
 
-    -- The scan is over.
-    pub all-scanned : g .edges ≤ e → Scanning g x price t₀ t near (g .edges)
-    all-scanned l = record {
+    -- Edges that do not lead from u need not be looked at.
+    skipped : (f : ℕ) → ((q : ℕ) → e ≤ q → q < f → tail g x q ≡ u → ⊥) → Looked g x price t₀ t near f
+    skipped f none = record {
       same = i .same;
-      notes = record { right = i .notes .right; older = i .notes .older; here = λ q a b. i .notes .here q a (omega arith) };
+      notes = record {
+        right = i .notes .right;
+        older = i .notes .older;
+        here = λ q l b c z. ⊎-elim (λ h. i .notes .here q l h c z) (λ h. absurd (none q h b (within .newest .only _ c))) (lt-or-ge q e);
+      };
       near-long = i .near-long;
     }
 
@@ -160,10 +179,48 @@ module _ {g : Graph} {bound : List ℤ} {x : List ℕ} {price₀ price : List �
           inside : w < vertices g
           inside = omega (arith, at, head-in net x e l)
 
+-- From place to place of vertex u.
+module _ {g : Graph} {bound : List ℤ} {x : List ℕ} {price₀ price : List ℤ} {t₀ t : Tree} {near₀ near : List ℕ} {root u k : ℕ}
+    (o : Growing g bound x price₀ price t₀ near₀ root u) (i : Scanning g x price t₀ t near u k) where
+  place-low : offset g u ≤ k
+  place-low = omega (arith, i .place)
+
+  skip : (f : ℕ) → seen g u (i .before) ≡ seen g u f → Looked g x price t₀ t near f
+  skip f same = skipped o (i .looked) f (λ q a b c. none-between g u (i .before) f q same a b (tail-end g x q u c))
+
+  module _ {index : List ℕ} {n : ℕ} (net : Solvable g) (is : index ≡ indexOf g) (all : n ≡ vertices g) (test : k < getD index (u + 1) 0) where
+    u-in : u < vertices g
+    u-in = o .search .newest .inside
+
+    high : k < offset g (u + 1)
+    high = omega (arith, test, start net is {v = u + 1} (omega (arith, u-in)))
+
+    -- There is an edge at the place.
+    pub readable : (n ≤ 128) × (n + 1 + k < length index) × (0 < getD index (n + 1 + k) 0)
+    readable = (omega (arith, all, few net), place-in net is all u-in place-low high, some net is all u-in place-low high)
+
+    pub stands : {e : ℕ} → e + 1 ≡ getD index (n + 1 + k) 0 → At g u k e
+    stands h = at net is all u-in place-low high h
+
+  -- Before edge e, which stands there, is looked at.
+  pub looking : {e : ℕ} → At g u k e → Looked g x price t₀ t near e
+  looking {e} a = skip e (omega (arith, i .place, a .place))
+
+  -- The scan is over.
+  pub all-scanned : {index : List ℕ} → Solvable g → index ≡ indexOf g → getD index (u + 1) 0 ≤ k → Looked g x price t₀ t near (g .edges)
+  all-scanned net is over =
+      let stop = start net is {v = u + 1} (omega (arith, o .search .newest .inside)) in
+      skip (g .edges) (omega (arith, over, stop, i .place, offset-next g u, count-more (isEnd g u) (i .before) (g .edges) (i .among)))
+
+-- After the edge at place k was looked at.
+pub turned : {g : Graph} {x : List ℕ} {price : List ℤ} {t₀ t : Tree} {near : List ℕ} {u k e : ℕ} → At g u k e → Looked g x price t₀ t near (e + 1) →
+    Scanning g x price t₀ t near u (k + 1)
+turned {e = e} a l = record { before = e + 1; among = omega (arith, a .inside); looked = l; place = seen-more a }
+
 -- After the scan: what an advance leaves.
 module _ {g : Graph} {bound : List ℤ} {x : List ℕ} {price₀ price price′ : List ℤ} {t₀ t t′ : Tree} {near₀ near : List ℕ} {used : ℕ → ℕ} {root u v : ℕ}
     {r : Bool}
-    (net : Solvable g) (o : Growing g bound x price₀ price t₀ near₀ root u) (i : Scanning g x price t₀ t near (g .edges)) (count : Degrees g x used)
+    (net : Solvable g) (o : Growing g bound x price₀ price t₀ near₀ root u) (i : Looked g x price t₀ t near (g .edges)) (count : Degrees g x used)
     (a : Advanced g bound used (entries near) price price′ t t′ v r) where
   after : Searching g bound x (levels price₀) (levels price′) (entries (t .label)) (entries (t .rank)) (entries near) root (t .count) u (g .edges)
   after = stepped net (within o i) (a .nearest) (a .moved)
@@ -248,7 +305,7 @@ pub has-room : {g : Graph} {used : ℕ → ℕ} {root : ℕ} (bound : List ℤ) 
 has-room {root = root} bound x net count low l = omega (arith, count root (omega (arith, rows-in net, few net)))
 
 -- What is noted are edges.
-pub noted-inside : {g : Graph} {x : List ℕ} {price : List ℤ} {t₀ t : Tree} {near : List ℕ} {e : ℕ} → Scanning g x price t₀ t near e →
+pub noted-inside : {g : Graph} {x : List ℕ} {price : List ℤ} {t₀ t : Tree} {near : List ℕ} {e : ℕ} → Looked g x price t₀ t near e →
     NotedInside (g .edges) (entries (t .rank)) (entries near)
 noted-inside i w z s = i .notes .right w z s .0
 

@@ -10,14 +10,18 @@ use lib.ListN.{length, take, replicate, length-replicate}
 use lib.Seq.{take-at}
 use borrow.Author.Tests.{le-leb, eq-eqb, ne-eqb}
 use Rattle.graph.specs.declared.Fault.{Fault}
+use Rattle.graph.specs.declared.IndexAnswer.{IndexAnswer}
+use Rattle.graph.specs.declared.IndexAnswer.the-variants as IndexAnswer
 use Rattle.graph.specs.declared.Refusal.{Refusal}
 use Rattle.graph.specs.declared.Shape.{Shape}
-use Rattle.graph.specs.Refusal.{Outcome, yields, refuses, told, filled}
+use Rattle.graph.specs.Refusal.{Outcome, yields, refuses, told, reported, filled, output}
 use Rattle.graph.specs.Graph.{Graph, vertices, verticesIn}
 use Rattle.graph.specs.Subgraph.{Optimal}
+use Rattle.graph.specs.Index.{indexNumbers, buildIndex, indexSays}
 use Rattle.graph.specs.Passed.{SizesHold, Passed, MarksHold}
 use Rattle.graph.proofs.Passing.{zero-one}
 use Rattle.graph.proofs.Told.{told-same}
+use Rattle.graph.proofs.Index.{index-fills}
 use Rattle.layout.specs.SubgraphText.{subgraphText}
 use Rattle.dual.specs.declared.SolveAnswer.{SolveAnswer}
 use Rattle.dual.specs.declared.SolveAnswer.the-variants as SolveAnswer
@@ -27,9 +31,10 @@ use Rattle.writer.specs.Written.{Written}
 use Rattle.report.specs.declared.Source.{Source}
 use Rattle.report.specs.declared.Source.the-variants as Source
 use Rattle.report.specs.Report.{refusedLine, lineRoom, composedBytes, composedLength, Composed}
-use Rattle.report.specs.Programs.{Run, has, ends, cameFrom, andThen, written, Problem, problemOf, lentFor, solveProblem, solveOutput, subgraphRoom}
+use Rattle.report.specs.Programs.{Run, has, ends, cameFrom, andThen, written, Problem, problemOf, lentFor, solveIndexed, solveProblem, solveOutput, subgraphRoom}
 use Rattle.report.specs.Programs.{SolveComposed}
 use Rattle.report.proofs.Parts.{composed-inside, other-room}
+use Rattle.problem_reader.proofs.Kept.{reported-yields, reported-refuses}
 use Rattle.problem_reader.proofs.Lent.{first-long, storedGraph, Stored}
 use Rattle.solve_writer.specs.Solution.{Solution}
 
@@ -63,22 +68,22 @@ pub line-kept : {text before after : List ℕ} {r : ℕ} → length before ≡ 1
 line-kept {before = before} long = other-room subgraphRoom (le-leb 256 (length before) (omega arith)) (eq-eqb (length before) 16384 long)
 
 -- The solver is lent what the graph gives, and has answered a.
-module _ (g : Graph) (bound : List ℤ) {L : Lent} (lent : L ≡ lentFor g) {a : SolveAnswer} (says : solveSays a ≡ told (solve g bound L)) where
-  outcome : {b : SolveAnswer} (o : Outcome (Unit {0})) → a ≡ b → solveSays b ≡ told o → solveProblem g bound ≡ cameFrom Source.Input o
+module _ (g : Graph) (bound : List ℤ) (index : List ℕ) {L : Lent} (lent : L ≡ lentFor g) {a : SolveAnswer} (says : solveSays a ≡ told (solve g bound index L)) where
+  outcome : {b : SolveAnswer} (o : Outcome (Unit {0})) → a ≡ b → solveSays b ≡ told o → solveIndexed g bound index ≡ cameFrom Source.Input o
   outcome o is tells =
-      ap (λ (l : Lent). cameFrom Source.Input (solve g bound l)) (sym lent)
-      ∙ ap (cameFrom Source.Input) (told-same (solve g bound L) o (sym says ∙ ap solveSays is ∙ tells))
+      ap (λ (l : Lent). cameFrom Source.Input (solve g bound index l)) (sym lent)
+      ∙ ap (cameFrom Source.Input) (told-same (solve g bound index L) o (sym says ∙ ap solveSays is ∙ tells))
 
   -- What is written stands for what the solver says.
   ends-with : {b : SolveAnswer} (o : Outcome (Unit {0})) (x : List ℕ) {before after : List ℕ} {r : ℕ} → a ≡ b → solveSays b ≡ told o
       → Composed subgraphRoom (written (λ h. subgraphText h x) (andThen (cameFrom Source.Input o) (λ u. has g))) before after r
-      → Composed subgraphRoom (written (λ h. subgraphText h x) (andThen (solveProblem g bound) (λ u. has g))) before after r
+      → Composed subgraphRoom (written (λ h. subgraphText h x) (andThen (solveIndexed g bound index) (λ u. has g))) before after r
   ends-with o x {before} {after} {r} is tells h =
       subst (λ (s : Run (Unit {0})). Composed subgraphRoom (written (λ h. subgraphText h x) (andThen s (λ u. has g))) before after r)
       (sym (outcome o is tells)) h
 
   pub refusal-left : {f : Refusal} {before after : List ℕ} {r : ℕ} → a ≡ SolveAnswer.Refused f → length before ≡ 16384
-      → Composed lineRoom (refusedLine Source.Input (f .fault) (f .place)) before after r → Solution g bound before after r
+      → Composed lineRoom (refusedLine Source.Input (f .fault) (f .place)) before after r → Solution g bound (solveIndexed g bound index) before after r
   refusal-left {f} is long h = record {
     chosen = [];
     optimal = λ e. let s = sym (outcome (refuses (f .fault) (f .place)) is refl) ∙ e in zero-one (cc);
@@ -86,12 +91,12 @@ module _ (g : Graph) (bound : List ℤ) {L : Lent} (lent : L ≡ lentFor g) {a :
   }
 
   -- It has chosen x.
-  module _ (is : a ≡ SolveAnswer.Solved) {x : List ℕ} {vertex edge workspace : List ℤ} (left : Left g bound L x vertex edge workspace) where
-    accepts : solve g bound L ≡ yields tt
-    accepts = told-same (solve g bound L) (yields tt) (sym says ∙ ap solveSays is)
+  module _ (is : a ≡ SolveAnswer.Solved) {x : List ℕ} {vertex edge workspace : List ℤ} (left : Left g bound index L x vertex edge workspace) where
+    accepts : solve g bound index L ≡ yields tt
+    accepts = told-same (solve g bound index L) (yields tt) (sym says ∙ ap solveSays is)
 
     pub solved-passed : Passed g
-    solved-passed = solve-passed g bound L accepts .passed
+    solved-passed = solve-passed g bound index L accepts .passed
 
     optimal : Optimal g bound x
     optimal = left .solved accepts .optimal
@@ -119,12 +124,51 @@ module _ (g : Graph) (bound : List ℤ) {L : Lent} (lent : L ≡ lentFor g) {a :
       part-marks = subst (MarksHold (g .edges)) (sym part) marks-hold
 
       pub part-written : {before after : List ℕ} {r : ℕ} → length before ≡ 16384 → Written g (take (g .edges) (x ++ rest)) after r
-          → Solution g bound before after r
+          → Solution g bound (solveIndexed g bound index) before after r
       part-written {after = after} {r = r} long w = record {
         chosen = x;
         optimal = λ e. optimal;
         composed = ends-with (yields tt) x is refl (text-composed long (subst (λ (y : List ℕ). Written g y after r) part w));
       }
+
+-- ---- the index
+
+-- What is lent of an array of zeros for the index.
+abbrev pub noIndex : List ℕ
+noIndex = replicate 2177 0
+
+pub index-fits : (g : Graph) {k : ℕ} → SizesHold (g .kind) (g .rows) (g .columns) (g .edges) → k ≡ indexNumbers g → k ≤ 2177
+index-fits g sizes all = omega (arith, all, sizes .order, sizes .few)
+
+-- The call that builds the index has answered a, where n numbers were lent for it.
+module _ (g : Graph) (bound : List ℤ) {n : ℕ} (all : n ≡ indexNumbers g) {a : IndexAnswer} (says : indexSays a ≡ told (reported (λ xs. tt) (buildIndex g n))) where
+  built : {b : IndexAnswer} (o : Outcome (Unit {0})) → a ≡ b → indexSays b ≡ told o → reported (λ xs. tt) (buildIndex g (indexNumbers g)) ≡ o
+  built o is tells =
+      ap (λ k. reported (λ xs. tt) (buildIndex g k)) (sym all) ∙ told-same (reported (λ xs. tt) (buildIndex g n)) o (sym says ∙ ap indexSays is ∙ tells)
+
+  pub index-refused : {f : Refusal} {before after : List ℕ} {r : ℕ} → a ≡ IndexAnswer.Refused f → length before ≡ 16384
+      → Composed lineRoom (refusedLine Source.Input (f .fault) (f .place)) before after r → Solution g bound (solveProblem g bound) before after r
+  index-refused {f} {before} {after} {r} is long h =
+      let e = reported-refuses (λ xs. tt {0}) (buildIndex g (indexNumbers g)) (f .fault) (f .place) (sym (built (refuses (f .fault) (f .place)) is refl)) in
+      let ended : solveProblem g bound ≡ ends Source.Input (f .fault) (f .place) =
+      ap (λ (o : Outcome (List ℕ)). andThen (cameFrom Source.Input o) (solveIndexed g bound)) e in
+      record {
+        chosen = [];
+        optimal = λ s. let z = sym ended ∙ s in zero-one (cc);
+        composed =
+            subst (λ (s : Run (Unit {0})). Composed subgraphRoom (written (λ h. subgraphText h []) (andThen s (λ u. has g))) before after r)
+            (sym ended) (line-kept long h);
+      }
+
+  -- It is built, and solved with what was lent.
+  pub index-solved : {index before after : List ℕ} {r : ℕ} → a ≡ IndexAnswer.Indexed → index ≡ output n 0 (λ xs. xs) (buildIndex g n)
+      → Solution g bound (solveIndexed g bound index) before after r → Solution g bound (solveProblem g bound) before after r
+  index-solved {index} {before} {after} {r} is held s =
+      let y = reported-yields (λ xs. tt {0}) (buildIndex g (indexNumbers g)) tt (sym (built (yields tt) is refl)) in
+      let same : y .value ≡ index = sym (held ∙ ap (λ k. output k 0 (λ xs. xs) (buildIndex g k)) all ∙ index-fills g (indexNumbers g) (y .yielded)) in
+      let solving : solveProblem g bound ≡ solveIndexed g bound index =
+      ap (λ (o : Outcome (List ℕ)). andThen (cameFrom Source.Input o) (solveIndexed g bound)) (y .yielded) ∙ ap (solveIndexed g bound) same in
+      subst (λ (R : Run (Unit {0})). Solution g bound R before after r) (sym solving) s
 
 -- ---- a problem that is read or refused
 
@@ -149,7 +193,7 @@ module _ (sheet limits : List ℕ) {before after : List ℕ} {r : ℕ} where
     record { chosen = []; picked = λ room. record { optimal = λ Q e. zero-one (cc) }; composed = output-as [] is (line-kept long h) },
   )
 
-  solution-picked : {P : Problem} → has P ≡ problemOf sheet limits → Solution (P .graph) (P .bound) before after r
+  solution-picked : {P : Problem} → has P ≡ problemOf sheet limits → Solution (P .graph) (P .bound) (solveProblem (P .graph) (P .bound)) before after r
       → (r ≤ length after) × SolveComposed sheet limits before after r
   solution-picked {P} is s = (
     composed-inside (s .composed),
@@ -165,9 +209,11 @@ module _ (sheet limits : List ℕ) {before after : List ℕ} {r : ℕ} where
   )
 
   pub solution-written : {s : Shape} {row column : List ℕ} {weight bound : List ℤ} {n : ℕ} → Stored sheet limits s row column weight bound → n ≡ verticesIn s
-      → Solution (storedGraph s row column weight) (take n bound) before after r → (r ≤ length after) × SolveComposed sheet limits before after r
+      → Solution (storedGraph s row column weight) (take n bound) (solveProblem (storedGraph s row column weight) (take n bound)) before after r
+      → (r ≤ length after) × SolveComposed sheet limits before after r
   solution-written {s} {row} {column} {weight} {bound} S all solution =
-      solution-picked (S .same) (subst (λ k. Solution (storedGraph s row column weight) (take k bound) before after r) all solution)
+      let g = storedGraph s row column weight in
+      solution-picked (S .same) (subst (λ k. Solution g (take k bound) (solveProblem g (take k bound)) before after r) all solution)
 
 -- The buffer has another length.
 pub nothing-written : (sheet limits : List ℕ) {before after : List ℕ} → length before ≢ 16384 → after ≡ replicate (length before) 0

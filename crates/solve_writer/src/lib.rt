@@ -1,6 +1,8 @@
-// What `solve` writes: reads a problem, solves it, and writes an optimal subgraph (plan), or the refusal that ends the run.
+// What `solve` writes: reads a problem, indexes and solves it, and writes an optimal subgraph (plan), or the refusal that ends the run.
 use dual::SolveAnswer;
+use graph::IndexAnswer;
 use graph::MOST_EDGES;
+use graph::MOST_INDEX;
 use graph::MOST_VERTICES;
 use graph::SUBGRAPH_BYTES;
 use graph::Shape;
@@ -13,21 +15,22 @@ ghost use lib.ListN.{length};
 ghost use Rattle.graph.specs.Limits.{subgraphBytes};
 ghost use Rattle.graph.specs.Graph.{graphOf};
 ghost use Rattle.graph.specs.Passed.{SizesHold};
-ghost use Rattle.report.specs.Programs.{SolveComposed};
+ghost use Rattle.report.specs.Programs.{solveIndexed, solveProblem, SolveComposed};
 ghost use Rattle.solve_writer.specs.Solution.{Solution};
 
-// Solves a problem, and writes the text of an optimal subgraph or the solver's refusal to `out`, 0 after its end. The result is its length.
-fn solve_problem(
+// Solves a problem with its index, and writes the text of an optimal subgraph or the solver's refusal to `out`, 0 after its end. The result is its length.
+fn solve_indexed(
     s: Shape,
     row: &[u32],
     column: &[u32],
     weight: &[i32],
     bound: &[i32],
+    index: &[u32],
     out: &mut [u8],
 ) -> usize
     requires { ⌜ SizesHold (s .kind) (s .rows) (s .columns) (s .edges) ⌝ }
     requires { ⌜ length (now out) ≡ subgraphBytes ⌝ }
-    ensures { λ r. ⌜ Solution (graphOf s (now (row .entry)) (now (column .entry)) (now (weight .entry))) (now (bound .entry)) (now (out .entry)) (now (out .exit)) r ⌝ }
+    ensures { λ r. ⌜ Solution (graphOf s (now (row .entry)) (now (column .entry)) (now (weight .entry))) (now (bound .entry)) (solveIndexed (graphOf s (now (row .entry)) (now (column .entry)) (now (weight .entry))) (now (bound .entry)) (now (index .entry))) (now (out .entry)) (now (out .exit)) r ⌝ }
 {
     let n = checks::vertex_count(s) as usize;
     let m = s.edges as usize;
@@ -41,6 +44,7 @@ fn solve_problem(
         column,
         weight,
         bound,
+        index,
         &mut chosen[..m],
         &mut vertex_price[..n],
         &mut edge_price[..m],
@@ -48,6 +52,27 @@ fn solve_problem(
     ) {
         SolveAnswer::Refused(refusal) => report::put_refused(out, Source::Input, refusal),
         SolveAnswer::Solved => writer::put_subgraph(out, s, row, column, &chosen[..m]),
+    }
+}
+
+// Builds the index of a problem's graph, and solves the problem with it.
+fn solve_problem(
+    s: Shape,
+    row: &[u32],
+    column: &[u32],
+    weight: &[i32],
+    bound: &[i32],
+    out: &mut [u8],
+) -> usize
+    requires { ⌜ SizesHold (s .kind) (s .rows) (s .columns) (s .edges) ⌝ }
+    requires { ⌜ length (now out) ≡ subgraphBytes ⌝ }
+    ensures { λ r. ⌜ Solution (graphOf s (now (row .entry)) (now (column .entry)) (now (weight .entry))) (now (bound .entry)) (solveProblem (graphOf s (now (row .entry)) (now (column .entry)) (now (weight .entry))) (now (bound .entry))) (now (out .entry)) (now (out .exit)) r ⌝ }
+{
+    let k = index::index_numbers(s) as usize;
+    let mut index = [0u32; MOST_INDEX];
+    match index::build_index(s, row, column, weight, &mut index[..k]) {
+        IndexAnswer::Refused(refusal) => report::put_refused(out, Source::Input, refusal),
+        IndexAnswer::Indexed => solve_indexed(s, row, column, weight, bound, &index[..k], out),
     }
 }
 

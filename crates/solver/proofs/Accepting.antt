@@ -15,11 +15,11 @@ not-both : {A : Type 0} {o : Outcome (Unit {0})} {f : Fault} {p : ℕ} → refus
 not-both e h = zero-one (cc)
 
 -- After a refusal.
-pub left-zero : {g : Graph} {bound : List ℤ} (lent : Lent) {f : Fault} {p : ℕ} {x : List ℕ} {vertex edge workspace : List ℤ} → refuses f p ≡ solve g bound lent
+pub left-zero : {g : Graph} {bound : List ℤ} (index : List ℕ) (lent : Lent) {f : Fault} {p : ℕ} {x : List ℕ} {vertex edge workspace : List ℤ} → refuses f p ≡ solve g bound index lent
     → x ≡ replicate (lent .chosen) 0 → vertex ≡ replicate (lent .vertexPrices) (pos 0) → edge ≡ replicate (lent .edgePrices) (pos 0) →
     workspace ≡ replicate (lent .workspace) (pos 0)
-    → Left g bound lent x vertex edge workspace
-left-zero {g} {bound} lent r a b c d = record {
+    → Left g bound index lent x vertex edge workspace
+left-zero {g} {bound} index lent r a b c d = record {
   solved = λ e. not-both r e;
   refused = λ f p e. record { marks = a; vertices = b; edges = c };
   cleared = d;
@@ -29,11 +29,11 @@ left-zero {g} {bound} lent r a b c d = record {
 }
 
 -- After a result.
-pub left-solved : {g : Graph} {bound : List ℤ} (lent : Lent) {x : List ℕ} {vertex edge workspace : List ℤ} → solve g bound lent ≡ yields tt →
+pub left-solved : {g : Graph} {bound : List ℤ} (index : List ℕ) (lent : Lent) {x : List ℕ} {vertex edge workspace : List ℤ} → solve g bound index lent ≡ yields tt →
     Solved g bound x vertex edge
     → length x ≡ lent .chosen → length vertex ≡ lent .vertexPrices → length edge ≡ lent .edgePrices → workspace ≡ replicate (lent .workspace) (pos 0)
-    → Left g bound lent x vertex edge workspace
-left-solved {g} {bound} lent e S a b c d = record {
+    → Left g bound index lent x vertex edge workspace
+left-solved {g} {bound} index lent e S a b c d = record {
   solved = λ h. S;
   refused = λ f p h. not-both (sym h) e;
   cleared = d;

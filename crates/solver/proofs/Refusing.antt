@@ -14,9 +14,10 @@ use Rattle.graph.specs.declared.Refusal.{Refusal}
 use Rattle.graph.specs.declared.Fault.the-variants.{LentLength, Bound, NotBipartite}
 use Rattle.graph.specs.Limits.{workspaceNumbers}
 use Rattle.graph.specs.Refusal.{yields, refuses, Test, once, lowest, passing}
-use Rattle.graph.specs.Graph.{Graph, vertices, boundAt, boundInRange}
+use Rattle.graph.specs.Graph.{Graph, shapeOf, vertices, boundAt, boundInRange}
 use Rattle.graph.specs.Tests.{graphLengths, graphTests, boundTest, kindTest, isBipartite}
-use Rattle.graph.specs.Passed.{Passed}
+use Rattle.graph.specs.Index.{indexNumbers, indexTest}
+use Rattle.graph.specs.Passed.{Sound, Passed}
 use Rattle.graph.proofs.Passing.{lowest-some, passing-none, passing-found, passing-append, once-passes, once-refuses}
 use Rattle.graph.proofs.Ranges.{held}
 use Rattle.checks.specs.declared.Check.{Check}
@@ -28,68 +29,74 @@ use Rattle.dual.specs.Solve.{Lent, solve}
 use Rattle.solver.specs.Solver.{otherLengths}
 
 -- The lengths of the graph, and then the others.
-together : (g a b c d e : Bool) → (g && a && b && c && d && e) ≡ g && (a && b && c && d && e)
-together true a b c d e = refl
-together false a b c d e = refl
+together : (g a b c d e f : Bool) → (g && a && b && c && d && e && f) ≡ g && (a && b && c && d && e && f)
+together true a b c d e f = refl
+together false a b c d e f = refl
 
-module _ (g : Graph) (bound : List ℤ) (lent : Lent) {others : Bool} (told : others ≡ otherLengths (vertices g) (g .edges) (length bound) lent) where
+module _ (g : Graph) (bound : List ℤ) (index : List ℕ) (lent : Lent) {others : Bool}
+    (told : others ≡ otherLengths (shapeOf g) (length bound) (length index) lent) where
   -- The tests of the lengths and of the graph's numbers, and those that follow.
   abbrev first : List Test
   first = once LentLength (graphLengths g && others) ∷ graphTests g
 
   abbrev later : List Test
-  later = boundTest g bound ∷ kindTest g ∷ []
+  later = boundTest g bound ∷ kindTest g ∷ indexTest g index ∷ []
 
-  whole : passing first (passing later (yields tt)) ≡ solve g bound lent
+  whole : passing first (passing later (yields tt)) ≡ solve g bound index lent
   unfolding solve
   whole =
       sym (passing-append first later (yields tt))
       ∙ ap (λ (b : Bool). passing (once LentLength b ∷ (graphTests g ++ later)) (yields tt))
       (ap (λ (b : Bool). graphLengths g && b) told
       ∙ sym
-      (together (graphLengths g) (eqb (length bound) (vertices g)) (eqb (lent .chosen) (g .edges)) (eqb (lent .vertexPrices) (vertices g))
-      (eqb (lent .edgePrices) (g .edges)) (eqb (lent .workspace) workspaceNumbers)))
+      (together (graphLengths g) (eqb (length bound) (vertices g)) (eqb (length index) (indexNumbers g)) (eqb (lent .chosen) (g .edges))
+      (eqb (lent .vertexPrices) (vertices g)) (eqb (lent .edgePrices) (g .edges)) (eqb (lent .workspace) workspaceNumbers)))
 
   -- The check r of the first tests.
   module _ {r : Check} (says : checkSays r ≡ passing (once LentLength (graphLengths g && others) ∷ graphTests g) (yields tt)) where
-    pub first-refused : {f : Refusal} → r ≡ Check.Refused f → refuses (f .fault) (f .place) ≡ solve g bound lent
+    pub first-refused : {f : Refusal} → r ≡ Check.Refused f → refuses (f .fault) (f .place) ≡ solve g bound index lent
     first-refused is = sym (checked-refused first (passing later (yields tt)) says is) ∙ whole
 
     module _ (is : r ≡ Check.Passed) where
-      from-bounds : passing later (yields tt) ≡ solve g bound lent
+      from-bounds : passing later (yields tt) ≡ solve g bound index lent
       from-bounds = sym (checked-passed first (passing later (yields tt)) says is) ∙ whole
 
       shown : Passed g × (others ≡ true)
       shown = lent-passed g others (yields tt) tt (sym says ∙ ap checkSays is)
 
-      bound-long : length bound ≡ vertices g
-      bound-long =
-          eqb-true (length bound) (vertices g)
-          (held (eqb (length bound) (vertices g))
-          (eqb (lent .chosen) (g .edges) ∷ eqb (lent .vertexPrices) (vertices g) ∷ eqb (lent .edgePrices) (g .edges)
+      long : (length bound ≡ vertices g) × (length index ≡ indexNumbers g)
+      long =
+          let lengths = held (eqb (length bound) (vertices g))
+          (eqb (length index) (indexNumbers g) ∷ eqb (lent .chosen) (g .edges) ∷ eqb (lent .vertexPrices) (vertices g) ∷ eqb (lent .edgePrices) (g .edges)
           ∷ eqb (lent .workspace) workspaceNumbers ∷ [])
-          (sym told ∙ shown .1) .0)
+          (sym told ∙ shown .1) in
+          (eqb-true (length bound) (vertices g) (lengths .0), eqb-true (length index) (indexNumbers g) (lengths .1 .0))
 
       abbrev lowestBound : Option ℕ
       lowestBound = lowest (length bound) (λ v. boundInRange (boundAt bound v))
 
       counted : lowest (vertices g) (λ v. boundInRange (boundAt bound v)) ≡ lowestBound
-      counted = ap (λ n. lowest n (λ v. boundInRange (boundAt bound v))) (sym bound-long)
+      counted = ap (λ n. lowest n (λ v. boundInRange (boundAt bound v))) (sym (long .0))
 
       -- A bound that is refused is one of few.
       pub bound-among : (v : ℕ) → lowestBound ≡ some v → v < 2 ^ 40
       bound-among v e =
-          omega (arith, lowest-some (length bound) (λ v. boundInRange (boundAt bound v)) v e .among, bound-long, shown .0 .sound .sizes .order)
+          omega (arith, lowest-some (length bound) (λ v. boundInRange (boundAt bound v)) v e .among, long .0, shown .0 .sound .sizes .order)
 
-      pub bound-refused : (v : ℕ) → lowestBound ≡ some v → refuses Bound (suc v) ≡ solve g bound lent
-      bound-refused v e = sym (passing-found (boundTest g bound) (kindTest g ∷ []) (yields tt) v (counted ∙ e)) ∙ from-bounds
+      pub bound-refused : (v : ℕ) → lowestBound ≡ some v → refuses Bound (suc v) ≡ solve g bound index lent
+      bound-refused v e = sym (passing-found (boundTest g bound) (kindTest g ∷ indexTest g index ∷ []) (yields tt) v (counted ∙ e)) ∙ from-bounds
 
       module _ (bounds : lowestBound ≡ none) where
-        from-kind : passing (kindTest g ∷ []) (yields tt) ≡ solve g bound lent
-        from-kind = sym (passing-none (boundTest g bound) (kindTest g ∷ []) (yields tt) (counted ∙ bounds)) ∙ from-bounds
+        from-kind : passing (kindTest g ∷ indexTest g index ∷ []) (yields tt) ≡ solve g bound index lent
+        from-kind = sym (passing-none (boundTest g bound) (kindTest g ∷ indexTest g index ∷ []) (yields tt) (counted ∙ bounds)) ∙ from-bounds
 
-        pub kind-refused : g .kind ≡ General → refuses NotBipartite 0 ≡ solve g bound lent
-        kind-refused e = sym (once-refuses NotBipartite (isBipartite (g .kind)) [] (yields tt) (ap isBipartite e)) ∙ from-kind
+        pub kind-refused : g .kind ≡ General → refuses NotBipartite 0 ≡ solve g bound index lent
+        kind-refused e = sym (once-refuses NotBipartite (isBipartite (g .kind)) (indexTest g index ∷ []) (yields tt) (ap isBipartite e)) ∙ from-kind
 
-        pub none-refused : g .kind ≡ Bipartite → yields tt ≡ solve g bound lent
-        none-refused e = sym (once-passes NotBipartite (isBipartite (g .kind)) [] (yields tt) (ap isBipartite e)) ∙ from-kind
+        -- What the test of the index may take for granted.
+        pub indexable : Sound (shapeOf g) (g .row) (g .column) × (length index ≡ indexNumbers g)
+        indexable = (shown .0 .sound, long .1)
+
+        -- It is the last test.
+        pub index-last : g .kind ≡ Bipartite → passing (indexTest g index ∷ []) (yields tt) ≡ solve g bound index lent
+        index-last e = sym (once-passes NotBipartite (isBipartite (g .kind)) (indexTest g index ∷ []) (yields tt) (ap isBipartite e)) ∙ from-kind

@@ -3,9 +3,13 @@ use Prim.Native.Nat.{ℕ}
 use mathlib.Core.Bool.{Bool, _&&_}
 use lib.Dec.{eqb}
 use Rattle.graph.specs.Limits.{workspaceNumbers}
+use Rattle.graph.specs.declared.Shape.{Shape}
+use Rattle.graph.specs.Graph.{verticesIn}
+use Rattle.graph.specs.Index.{indexNumbersIn}
 use Rattle.dual.specs.Solve.{Lent}
 
 -- They are just what the numbers of vertices and of edges give, and the workspace has its own.
-abbrev pub otherLengths : ℕ → ℕ → ℕ → Lent → Bool
-otherLengths vertices edges bound lent =
-    eqb bound vertices && eqb (lent .chosen) edges && eqb (lent .vertexPrices) vertices && eqb (lent .edgePrices) edges && eqb (lent .workspace) workspaceNumbers
+abbrev pub otherLengths : Shape → ℕ → ℕ → Lent → Bool
+otherLengths s bound index lent =
+    eqb bound (verticesIn s) && eqb index (indexNumbersIn s) && eqb (lent .chosen) (s .edges)
+    && eqb (lent .vertexPrices) (verticesIn s) && eqb (lent .edgePrices) (s .edges) && eqb (lent .workspace) workspaceNumbers

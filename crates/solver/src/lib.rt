@@ -9,7 +9,7 @@ use graph::Shape;
 use graph::WORKSPACE_NUMBERS;
 ghost use mathlib.Core.Path.{_≡_};
 ghost use lib.ListN.{length};
-ghost use Rattle.graph.specs.Graph.{graphOf, verticesIn};
+ghost use Rattle.graph.specs.Graph.{graphOf};
 ghost use Rattle.checks.specs.Checks.{checkSays};
 ghost use Rattle.dual.specs.Solve as dual-solve;
 ghost use Rattle.graph.specs.Refusal.{told};
@@ -25,12 +25,13 @@ struct Lengths {
 }
 
 // Whether what is lent besides the graph has just the lengths that the numbers of vertices and of edges give, and the workspace its own.
-fn others_match(s: Shape, bound: usize, outputs: Lengths) -> bool
-    ensures { λ r. ⌜ r ≡ otherLengths (verticesIn s) (s .edges) bound (lentOf (outputs .chosen) (outputs .vertex) (outputs .edge) (outputs .workspace)) ⌝ }
+fn others_match(s: Shape, bound: usize, index: usize, outputs: Lengths) -> bool
+    ensures { λ r. ⌜ r ≡ otherLengths s bound index (lentOf (outputs .chosen) (outputs .vertex) (outputs .edge) (outputs .workspace)) ⌝ }
 {
     let n = checks::vertex_count(s) as usize;
     let m = s.edges as usize;
-    let marks = both(bound == n, outputs.chosen == m);
+    let inputs = both(bound == n, index == index::index_numbers(s) as usize);
+    let marks = both(inputs, outputs.chosen == m);
     let prices = both(both(marks, outputs.vertex == n), outputs.edge == m);
     both(prices, outputs.workspace == WORKSPACE_NUMBERS)
 }
@@ -42,11 +43,12 @@ fn tested(
     column: &[u32],
     weight: &[i32],
     bound: &[i32],
+    index: &[u32],
     outputs: Lengths,
 ) -> Check
-    ensures { λ r. ⌜ checkSays r ≡ dual-solve.solve (graphOf s (now (row .entry)) (now (column .entry)) (now (weight .entry))) (now (bound .entry)) (lentOf (outputs .chosen) (outputs .vertex) (outputs .edge) (outputs .workspace)) ⌝ }
+    ensures { λ r. ⌜ checkSays r ≡ dual-solve.solve (graphOf s (now (row .entry)) (now (column .entry)) (now (weight .entry))) (now (bound .entry)) (now (index .entry)) (lentOf (outputs .chosen) (outputs .vertex) (outputs .edge) (outputs .workspace)) ⌝ }
 {
-    let others = others_match(s, bound.len(), outputs);
+    let others = others_match(s, bound.len(), index.len(), outputs);
     if let Check::Refused(r) = lent::check_lent(s, row, column, weight, others) {
         return Check::Refused(r);
     }
@@ -57,23 +59,25 @@ fn tested(
     if let Kind::General = kind {
         return checks::refused(Fault::NotBipartite, 0);
     }
-    Check::Passed
+    let last = index::check_places(s, row, column, index);
+    last
 }
 
-// Chooses a subgraph of largest weight, and sets prices that show it, where the tests accept the graph and its bounds.
+// Chooses a subgraph of largest weight, and sets prices that show it, where the tests accept the graph, its bounds and its index.
 pub fn solve(
     s: Shape,
     row: &[u32],
     column: &[u32],
     weight: &[i32],
     bound: &[i32],
+    index: &[u32],
     chosen: &mut [u8],
     vertex_price: &mut [i32],
     edge_price: &mut [i32],
     workspace: &mut [i32],
 ) -> SolveAnswer
-    ensures { λ r. ⌜ solveSays r ≡ told (dual-solve.solve (graphOf s (now (row .entry)) (now (column .entry)) (now (weight .entry))) (now (bound .entry)) (lentOf (length (now (chosen .entry))) (length (now («vertex_price» .entry))) (length (now («edge_price» .entry))) (length (now (workspace .entry))))) ⌝ }
-    ensures { λ _. ⌜ Left (graphOf s (now (row .entry)) (now (column .entry)) (now (weight .entry))) (now (bound .entry)) (lentOf (length (now (chosen .entry))) (length (now («vertex_price» .entry))) (length (now («edge_price» .entry))) (length (now (workspace .entry)))) (now (chosen .exit)) (now («vertex_price» .exit)) (now («edge_price» .exit)) (now (workspace .exit)) ⌝ }
+    ensures { λ r. ⌜ solveSays r ≡ told (dual-solve.solve (graphOf s (now (row .entry)) (now (column .entry)) (now (weight .entry))) (now (bound .entry)) (now (index .entry)) (lentOf (length (now (chosen .entry))) (length (now («vertex_price» .entry))) (length (now («edge_price» .entry))) (length (now (workspace .entry))))) ⌝ }
+    ensures { λ _. ⌜ Left (graphOf s (now (row .entry)) (now (column .entry)) (now (weight .entry))) (now (bound .entry)) (now (index .entry)) (lentOf (length (now (chosen .entry))) (length (now («vertex_price» .entry))) (length (now («edge_price» .entry))) (length (now (workspace .entry)))) (now (chosen .exit)) (now («vertex_price» .exit)) (now («edge_price» .exit)) (now (workspace .exit)) ⌝ }
 {
     let outputs = Lengths {
         chosen: chosen.len(),
@@ -81,7 +85,7 @@ pub fn solve(
         edge: edge_price.len(),
         workspace: workspace.len(),
     };
-    let check = tested(s, row, column, weight, bound, outputs);
+    let check = tested(s, row, column, weight, bound, index, outputs);
     lent::clear_bytes(chosen);
     lent::clear_integers(vertex_price);
     lent::clear_integers(edge_price);
@@ -95,6 +99,7 @@ pub fn solve(
         column,
         weight,
         bound,
+        index,
         chosen,
         vertex_price,
         edge_price,

@@ -1,6 +1,6 @@
 //! Graphs as they are lent to the calls on numbers, right and now and then wrong.
 
-use reference::{Graph, Kind, Random};
+use reference::{build_index, index_length, Graph, Kind, Random};
 
 /// The numbers of a graph, of which something may be wrong.
 #[derive(Clone, Debug)]
@@ -115,6 +115,14 @@ impl Lent {
             column: &self.column,
             weight: &self.weight,
         }
+    }
+
+    /// The index of a right graph. Of a wrong one it has the length that the numbers give, up to 4,096, and holds 0.
+    pub fn index(&self) -> Vec<u32> {
+        let g = self.lend();
+        let mut index = vec![0; index_length(&g).min(4096) as usize];
+        let _ = build_index(&g, &mut index);
+        index
     }
 
     /// The number of vertices, where the graph is right.

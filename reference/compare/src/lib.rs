@@ -5,6 +5,7 @@ pub mod files;
 pub mod folders;
 pub mod graphs;
 pub mod guard;
+pub mod indexes;
 pub mod measures;
 pub mod programs;
 pub mod proved;

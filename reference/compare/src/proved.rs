@@ -58,6 +58,36 @@ extern "C" {
         out_len: usize,
         answer: *mut u64,
     ) -> u32;
+    fn jangoripu_build_index(
+        general: bool,
+        rows: u32,
+        columns: u32,
+        edges: u32,
+        row: *const u32,
+        row_len: usize,
+        column: *const u32,
+        column_len: usize,
+        weight: *const i32,
+        weight_len: usize,
+        index: *mut u32,
+        index_len: usize,
+        place: *mut u64,
+    ) -> u32;
+    fn jangoripu_test_index(
+        general: bool,
+        rows: u32,
+        columns: u32,
+        edges: u32,
+        row: *const u32,
+        row_len: usize,
+        column: *const u32,
+        column_len: usize,
+        weight: *const i32,
+        weight_len: usize,
+        index: *const u32,
+        index_len: usize,
+        place: *mut u64,
+    ) -> u32;
     fn jangoripu_solve(
         general: bool,
         rows: u32,
@@ -71,6 +101,8 @@ extern "C" {
         weight_len: usize,
         bound: *const i32,
         bound_len: usize,
+        index: *const u32,
+        index_len: usize,
         chosen: *mut u8,
         chosen_len: usize,
         vertex_price: *mut i32,
@@ -233,10 +265,57 @@ pub fn write_subgraph(graph: &Graph, chosen: &[u8], out: &mut [u8]) -> Result<us
     answered(number, answer[0], answer[1] as usize)
 }
 
+/// Building an index.
+pub fn build_index(graph: &Graph, index: &mut [u32]) -> Result<(), Refusal> {
+    let mut place = 7;
+    let number = unsafe {
+        jangoripu_build_index(
+            is_general(graph.kind),
+            graph.rows,
+            graph.columns,
+            graph.edges,
+            graph.row.as_ptr(),
+            graph.row.len(),
+            graph.column.as_ptr(),
+            graph.column.len(),
+            graph.weight.as_ptr(),
+            graph.weight.len(),
+            index.as_mut_ptr(),
+            index.len(),
+            &mut place,
+        )
+    };
+    answered(number, place, ())
+}
+
+/// Testing an index.
+pub fn test_index(graph: &Graph, index: &[u32]) -> Result<(), Refusal> {
+    let mut place = 7;
+    let number = unsafe {
+        jangoripu_test_index(
+            is_general(graph.kind),
+            graph.rows,
+            graph.columns,
+            graph.edges,
+            graph.row.as_ptr(),
+            graph.row.len(),
+            graph.column.as_ptr(),
+            graph.column.len(),
+            graph.weight.as_ptr(),
+            graph.weight.len(),
+            index.as_ptr(),
+            index.len(),
+            &mut place,
+        )
+    };
+    answered(number, place, ())
+}
+
 /// The solver.
 pub fn solve(
     graph: &Graph,
     bound: &[i32],
+    index: &[u32],
     chosen: &mut [u8],
     vertex_price: &mut [i32],
     edge_price: &mut [i32],
@@ -257,6 +336,8 @@ pub fn solve(
             graph.weight.len(),
             bound.as_ptr(),
             bound.len(),
+            index.as_ptr(),
+            index.len(),
             chosen.as_mut_ptr(),
             chosen.len(),
             vertex_price.as_mut_ptr(),

@@ -15,6 +15,16 @@ pub enum Seen {
     Other(String),
 }
 
+impl Seen {
+    /// What an answer shows.
+    pub fn of<T>(answer: &Result<T, Refusal>) -> Seen {
+        match answer {
+            Ok(_) => Seen::Result,
+            Err(refusal) => Seen::Refusal(refusal.number),
+        }
+    }
+}
+
 impl fmt::Display for Seen {
     fn fmt(&self, f: &mut fmt::Formatter) -> fmt::Result {
         match self {
@@ -65,11 +75,7 @@ impl Tally {
         agreed: bool,
         show: impl FnOnce() -> String,
     ) {
-        let seen = match expected {
-            Ok(_) => Seen::Result,
-            Err(refusal) => Seen::Refusal(refusal.number),
-        };
-        self.note(&[seen], agreed, show);
+        self.note(&[Seen::of(expected)], agreed, show);
     }
 
     /// Prints the counts; true if the two always agreed, at least `least`

@@ -1,7 +1,7 @@
 //! The separately written program of document 01, "The crossing sheet, its
-//! plans and its prices".
+//! plans and its prices", and of document 02's request for an index.
 //!
-//! It uses the field's words. Each definition says which word of document 01
+//! It uses the field's words. Each definition says which word of the documents
 //! it is.
 
 #![forbid(unsafe_code)]
@@ -9,6 +9,7 @@
 
 pub mod brute;
 pub mod graph;
+pub mod index;
 pub mod measure;
 pub mod programs;
 pub mod random;
@@ -20,6 +21,7 @@ pub mod write;
 
 pub use brute::{feasible_subgraphs, largest_weight, FeasibleSubgraphs};
 pub use graph::{Graph, Head, Kind, OwnedGraph};
+pub use index::{build_index, index_length, test_index};
 pub use measure::{measure, Measures};
 pub use programs::{mark_output, solve_output, Files};
 pub use random::{random_graph, Random};

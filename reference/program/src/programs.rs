@@ -1,6 +1,7 @@
 //! What the programs `solve` and `mark` print.
 
 use crate::graph::{Graph, Head, Kind, MOST_EDGES};
+use crate::index::{build_index, index_length};
 use crate::measure::measure;
 use crate::read::{read_graph, read_numbers, read_subgraph, What};
 use crate::refusal::Refusal;
@@ -113,12 +114,15 @@ pub fn solve_files(files: &Files) -> Result<Vec<u8>, Refused> {
     let input = Input::read(files)?;
     let graph = input.graph();
     let (n, m) = (input.bound.len(), graph.row.len());
+    let mut index = vec![0; index_length(&graph) as usize];
+    build_index(&graph, &mut index).map_err(from("input"))?;
     let mut chosen = vec![0; m];
     let (mut vertex_price, mut edge_price) = (vec![0; n], vec![0; m]);
     let mut workspace = vec![0; WORKSPACE];
     solve(
         &graph,
         &input.bound,
+        &index,
         &mut chosen,
         &mut vertex_price,
         &mut edge_price,

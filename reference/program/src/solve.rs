@@ -14,6 +14,7 @@
 //! found so far, and goes on only from columns without residual bound.
 
 use crate::graph::{graph_lengths_right, has_length, test_bounds, test_graph, Graph, Kind};
+use crate::index::{index_length, test_numbers};
 use crate::refusal::Refusal;
 
 /// The numbers of the lent workspace (scratch).
@@ -25,10 +26,12 @@ const UNREACHED: i32 = i32::MIN;
 /// Solves a bipartite graph (the solver): an optimal subgraph, that is a
 /// feasible one of largest weight (valid plan of largest merit), and prices
 /// from 0 to 1,000,000 that cover every edge with gap 0. The workspace of 4,096
-/// numbers is 0 afterwards; after a refusal all outputs are 0 too.
+/// numbers is 0 afterwards; after a refusal all outputs are 0 too. The graph's
+/// index is lent and tested; this method makes no use of it.
 pub fn solve(
     graph: &Graph,
     bound: &[i32],
+    index: &[u32],
     chosen: &mut [u8],
     vertex_price: &mut [i32],
     edge_price: &mut [i32],
@@ -42,6 +45,7 @@ pub fn solve(
     let m = u64::from(graph.edges);
     if !graph_lengths_right(graph)
         || !has_length(bound.len(), n)
+        || !has_length(index.len(), index_length(graph))
         || !has_length(chosen.len(), m)
         || !has_length(vertex_price.len(), n)
         || !has_length(edge_price.len(), m)
@@ -54,6 +58,7 @@ pub fn solve(
     if graph.kind != Kind::Bipartite {
         return Err(Refusal::new(16, 0));
     }
+    test_numbers(graph, index)?;
 
     let mut network = Network::new(graph, bound, chosen, workspace);
     while let Some(end) = network.search() {

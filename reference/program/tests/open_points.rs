@@ -363,6 +363,7 @@ fn point_17_outputs_after_refusals() {
     assert_eq!(read("1 2 2\n1 1 5\n1 2 x\n"), Err(refusal(5, 4)));
     // The workspace is 0 after a result, whatever it held before.
     let graph = case_2();
+    let index = built(&graph.lend()).unwrap();
     let mut first = None;
     for held in [0, -1, 1, i32::MAX, i32::MIN] {
         let mut workspace = [held; 4_096];
@@ -371,6 +372,7 @@ fn point_17_outputs_after_refusals() {
         let found = solve(
             &graph.lend(),
             &[1; 4],
+            &index,
             &mut chosen,
             &mut vertex_price,
             &mut edge_price,

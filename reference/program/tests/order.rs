@@ -71,24 +71,58 @@ fn order_of_measure() {
 #[test]
 fn order_of_solve() {
     let mut edges = vec![(2, 1, 5), (2, 1, 5), (3, 1, 1_000_001), (1, 1, 5)];
+    let mut kind = Kind::General;
     let mut rows = 129;
-    let mut bound = vec![65; 128];
-    for expected in [9, 4, 6, 7, 8, 10, 16] {
-        let graph = OwnedGraph::new(Kind::General, rows, rows, &edges);
-        let found = solved(&graph.lend(), &bound);
+    let mut bound = vec![65; 129];
+    let mut index = vec![9; 137];
+    for expected in [9, 4, 6, 7, 8, 10, 16, 18, 0] {
+        let graph = OwnedGraph::new(kind, rows, rows, &edges);
+        let found = solved_with(&graph.lend(), &bound, &index);
         assert_eq!(found.err().map_or(0, |refusal| refusal.number), expected);
         match expected {
-            9 => bound.push(65),
+            9 => index.push(9),
             4 => {
                 rows = 3;
                 bound.truncate(3);
+                index.truncate(12);
             }
             6 => edges[3] = (3, 2, 5),
             7 => edges[2].2 = 5,
             8 => {
                 edges.remove(1);
+                index.truncate(10);
             }
             10 => bound = vec![1; 3],
+            16 => {
+                kind = Kind::Bipartite;
+                bound = vec![1; 6];
+                index.resize(13, 9);
+            }
+            18 => index = vec![0, 0, 1, 3, 5, 6, 6, 1, 2, 3, 1, 2, 3],
+            _ => {}
+        }
+    }
+}
+
+#[test]
+fn order_of_building_and_testing_an_index() {
+    let mut edges = broken_edges();
+    let mut rows = 65;
+    let mut index = vec![9; 78];
+    for expected in [9, 4, 6, 7, 8, 18, 0] {
+        let graph = OwnedGraph::new(Kind::Bipartite, rows, 3, &edges);
+        let number = |found: Result<(), Refusal>| found.err().map_or(0, |refusal| refusal.number);
+        assert_eq!(number(test_index(&graph.lend(), &index)), expected);
+        let built = number(build_index(&graph.lend(), &mut index.clone()));
+        assert_eq!(built, if expected == 18 { 0 } else { expected });
+        match expected {
+            9 => index.push(9),
+            4 => {
+                rows = 2;
+                index.truncate(16);
+            }
+            6..=8 => mend(&mut edges, expected),
+            18 => build_index(&graph.lend(), &mut index).unwrap(),
             _ => {}
         }
     }

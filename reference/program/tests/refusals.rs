@@ -346,6 +346,7 @@ fn wrong_graphs(graph: &OwnedGraph) -> Vec<Graph<'_>> {
 #[test]
 fn refusal_9_graph_lengths_of_calls() {
     let graph = case_2();
+    let index = built(&graph.lend()).unwrap();
     for wrong in wrong_graphs(&graph) {
         let mut chosen = [7; 4];
         let found = read_subgraph(b"", &wrong, &mut chosen);
@@ -360,6 +361,7 @@ fn refusal_9_graph_lengths_of_calls() {
         let found = solve(
             &wrong,
             &[1; 4],
+            &index,
             &mut chosen,
             &mut vertex_price,
             &mut edge_price,
@@ -368,6 +370,11 @@ fn refusal_9_graph_lengths_of_calls() {
         assert_eq!(found, Err(refusal(9, 0)));
         assert_eq!((chosen, vertex_price, edge_price), ([0; 4], [0; 4], [0; 4]));
         assert_eq!(workspace, [0; 4_096]);
+
+        let mut out = [7; 13];
+        let found = build_index(&wrong, &mut out);
+        assert_eq!((found, out), (Err(refusal(9, 0)), [0; 13]));
+        assert_eq!(test_index(&wrong, &index), Err(refusal(9, 0)));
 
         let found = measured(&wrong, &[1; 4], &[0; 4], &[5; 4], &[0; 4], &Sets::none());
         assert_eq!(found, Err(refusal(9, 0)));
@@ -392,7 +399,7 @@ fn refusal_9_other_lengths_of_the_solver() {
         columns: 3,
         ..case_2()
     };
-    let right = [5, 4, 5, 4, 4_096];
+    let right = [5, 4, 5, 4, 4_096, 14];
     for wrong in 0..right.len() {
         for length in [right[wrong] - 1, right[wrong] + 1, 0] {
             let mut lengths = right;
@@ -402,9 +409,12 @@ fn refusal_9_other_lengths_of_the_solver() {
             let mut vertex_price = vec![7; lengths[2]];
             let mut edge_price = vec![7; lengths[3]];
             let mut workspace = vec![7; lengths[4]];
+            let mut index = built(&graph.lend()).unwrap();
+            index.resize(lengths[5], 0);
             let found = solve(
                 &graph.lend(),
                 &bound,
+                &index,
                 &mut chosen,
                 &mut vertex_price,
                 &mut edge_price,
@@ -479,12 +489,17 @@ fn refusal_9_counts_as_passed() {
     let found = solve(
         &graph.lend(),
         &[],
+        &[7],
         &mut [],
         &mut [],
         &mut [],
         &mut workspace,
     );
     assert_eq!((found, workspace), (Err(refusal(9, 0)), [0; 4_096]));
+    let mut index = [7];
+    let found = build_index(&graph.lend(), &mut index);
+    assert_eq!((found, index), (Err(refusal(9, 0)), [0]));
+    assert_eq!(test_index(&graph.lend(), &[7]), Err(refusal(9, 0)));
     let found = measure(&graph.lend(), &[], &[], &[], &[], 0, &[], &[], &[]);
     assert_eq!(found, Err(refusal(9, 0)));
 }
@@ -677,6 +692,10 @@ fn refusal_16_general_graph() {
     let graph = OwnedGraph::new(Kind::General, 1, 1, &[]);
     assert_eq!(solved(&graph.lend(), &[1]), Err(refusal(16, 0)));
     assert_eq!(solved(&triangle().lend(), &[1; 3]), Err(refusal(16, 0)));
+    // Its index is not looked at.
+    let index = [9; 10];
+    let found = solved_with(&triangle().lend(), &[1; 3], &index);
+    assert_eq!(found, Err(refusal(16, 0)));
 }
 
 #[test]
@@ -695,4 +714,28 @@ fn refusal_17_disagreement() {
     let graph = OwnedGraph::new(Kind::Bipartite, 2, 2, &[(1, 1, 5), (2, 1, 5)]);
     let text = plan(GENERAL, "2 2 2\n1 1\n1 2\n");
     assert_eq!(subgraph_of(&text, &graph.lend()), Err(refusal(17, 4)));
+}
+
+#[test]
+fn refusal_18_index() {
+    // Offsets 0, 2, 4, 6, 8; vertices 1 to 4 have edges 1 2, 3 4, 1 3, 2 4.
+    let graph = case_2();
+    let right = built(&graph.lend()).unwrap();
+    assert_eq!(right, [0, 2, 4, 6, 8, 1, 2, 3, 4, 1, 3, 2, 4]);
+    assert_eq!(test_index(&graph.lend(), &right), Ok(()));
+    assert!(solved_with(&graph.lend(), &[1; 4], &right).is_ok());
+    for (at, number) in [(0, 1), (1, 1), (4, 9), (5, 2), (8, 0), (12, 5)] {
+        let mut wrong = right.clone();
+        wrong[at] = number;
+        let expected = refusal(18, at as u64 + 1);
+        assert_eq!(test_index(&graph.lend(), &wrong), Err(expected));
+        let found = solved_with(&graph.lend(), &[1; 4], &wrong);
+        assert_eq!(found, Err(expected));
+    }
+    // The triangle has one too; the solver does not come to test it.
+    let mut index = built(&triangle().lend()).unwrap();
+    assert_eq!(index, [0, 2, 4, 6, 1, 2, 1, 3, 2, 3]);
+    index[9] = 2;
+    let found = test_index(&triangle().lend(), &index);
+    assert_eq!(found, Err(refusal(18, 10)));
 }

@@ -7,7 +7,7 @@ use Prim.Native.Nat.{_-_}
 use native.Mathlib.Omega.{arith}
 use lib.ListN.{length}
 use Rattle.tree.specs.Tree.{entries}
-use Rattle.dual_step.proofs.Loops.{Moves, moves-next}
+use Rattle.dual_step.proofs.Loops.{moves-none, Moves, moves-next}
 use Rattle.dual_step.proofs.dual_step.Statement.{statement}
 use Rattle.dual_step.proofs.dual_step.Tie as tie
 
@@ -17,63 +17,64 @@ Inv-loop price₀ rank rows by v₀ price v = Filling (pos 0) (Moves rows by (en
 abbrev μ-loop : tie.MeasureT-loop
 μ-loop price₀ rank rows by v₀ price v = length price₀ - v
 
+returns : tie.Need-returns Inv-loop μ-loop
+returns c = moves-none (c .if1 .taken)
+
 loop-holds : tie.Need-loop-holds Inv-loop μ-loop
 loop-holds c = fill-none
 
 mul-moved : tie.Need-mul-moved Inv-loop μ-loop
-mul-moved c =
-    let pre = c .before .before .pre in
-    omega (arith, c .before .loop .inv .long, pre .0)
+mul-moved c = omega (arith, c .before .loop .inv .long, c .before .before .before .pre .0)
 
 element-copy-out-moved : tie.Need-element-copy-out-moved Inv-loop μ-loop
-element-copy-out-moved c =
-    let pre = c .before .before .pre in
-    omega (arith, c .before .loop .inv .long, pre .0)
+element-copy-out-moved c = omega (arith, c .before .loop .inv .long, c .before .before .before .pre .0)
 
 natural-at-requires : tie.Need-natural-at-requires Inv-loop μ-loop
 natural-at-requires c κs = c .before .before .loop-test .taken
 
 moved-requires : tie.Need-moved-requires Inv-loop μ-loop
 moved-requires c κs =
-    let at-loop-test = c .before .before .before in
-    let at-loop = at-loop-test .before in
-    let pre = at-loop .before .pre in
-    let inv = at-loop .loop .inv in
-    let v = at-loop .loop .v in
-    let old = ap up (inv .rest v (omega arith)) in (
-      λ l s. omega (arith, c .natural-at .ensures, old, pre .1 .1 v (omega (arith, inv .long, at-loop-test .loop-test .taken)) l s),
-      omega (arith, c .natural-at .ensures, old, pre .1 .0 v (omega (arith, inv .long, at-loop-test .loop-test .taken))),
+    let at-loop = c .before .before .before .before in
+    let pre = at-loop .before .before .pre in
+    let loop = at-loop .loop in
+    let test = c .before .before .before .loop-test in
+    let old = ap up (loop .inv .rest (loop .v) (omega arith)) in (
+      λ l s. omega (arith, c .natural-at .ensures, old, pre .1 .1 (loop .v) (omega (arith, loop .inv .long, test .taken)) l s),
+      omega (arith, c .natural-at .ensures, old, pre .1 .0 (loop .v) (omega (arith, loop .inv .long, test .taken))),
       pre .0 .1,
     )
 
 set-level-requires : tie.Need-set-level-requires Inv-loop μ-loop
 set-level-requires c κs =
-    let loop-test = c .before .before .before .before .before .loop-test in
-    (loop-test .taken, omega (arith, c .before .moved .ensures .1))
+    let at-loop-test = c .before .before .before .before .before in
+    (at-loop-test .loop-test .taken, omega (arith, c .before .moved .ensures .1))
 
 add-v : tie.Need-add-v Inv-loop μ-loop
 add-v c =
     let at-loop = c .before .before .before .before .before .before .before .before in
-    let pre = at-loop .before .pre in
-    omega (arith, at-loop .loop .inv .long, pre .0)
+    let at-start = at-loop .before .before in
+    omega (arith, at-loop .loop .inv .long, at-start .pre .0)
 
 loop-less : tie.Need-loop-less Inv-loop μ-loop
-loop-less c = omega (arith, c .before .before .before .before .before .before .before .before .loop .inv .long)
+loop-less c =
+    let at-loop = c .before .before .before .before .before .before .before .before in
+    omega (arith, at-loop .loop .inv .long)
 
 loop-again : tie.Need-loop-again Inv-loop μ-loop
 loop-again c =
-    let at-moved = c .before .before .before in
-    let at-natural-at = at-moved .before in
+    let at-natural-at = c .before .before .before .before in
     let at-loop-test = at-natural-at .before .before .before in
-    let inv = at-loop-test .before .loop .inv in
+    let at-loop = at-loop-test .before in
     rw (c .before .set-level .ensures)
-    (moves-next inv (at-loop-test .loop-test .taken) (at-natural-at .natural-at .ensures) (at-moved .moved .ensures .0))
+    (moves-next (at-loop .loop .inv) (at-loop-test .loop-test .taken) (at-natural-at .natural-at .ensures) (c .before .before .before .moved .ensures .0))
 
 same-length : tie.Need-same-length Inv-loop μ-loop
 same-length c = c .before .loop .inv .long
 
-returns : tie.Need-returns Inv-loop μ-loop
-returns c = let inv = c .before .loop .inv in record { each = λ v l. inv .each v (omega (arith, inv .long, c .loop-test .left)) }
+returns-2 : tie.Need-returns-2 Inv-loop μ-loop
+returns-2 c =
+    let inv = c .before .loop .inv in
+    record { each = λ v l. inv .each v (omega (arith, inv .long, c .loop-test .left)) }
 
 pub dual-step-spec : {M : Type 1} → statement M
 dual-step-spec =
@@ -81,6 +82,7 @@ dual-step-spec =
     (tie.spec
     Inv-loop
     μ-loop
+    returns
     loop-holds
     mul-moved
     element-copy-out-moved
@@ -91,4 +93,4 @@ dual-step-spec =
     loop-less
     loop-again
     same-length
-    returns)
+    returns-2)

@@ -7,7 +7,7 @@ use Rattle.graph.specs.Graph.{graphOf, verticesIn}
 use Rattle.tree.specs.Method.{level}
 use Rattle.tree.specs.Tree.{entries, levels, slack, Nearest}
 use Rattle.tree.proofs.Solvable.{few, rows-in, root-in}
-use Rattle.dual_step.proofs.Loops.{nearest-root, nearest-keep, nearest-take, nearest-end}
+use Rattle.dual_step.proofs.Loops.{nearest-root, nearest-keep, nearest-take, nearest-end, nearest-none}
 use Rattle.dual_step.proofs.nearest.Statement.{statement}
 use Rattle.dual_step.proofs.nearest.Tie as tie
 
@@ -44,37 +44,43 @@ loop-holds c =
       omega (arith, c .natural-at .ensures, prices .most (start .args .root) at),
     )
 
+returns : tie.Need-returns Inv-loop μ-loop
+returns c =
+    let at-start = c .before .before .before .before .before .before in
+    let inv = c .before .before .loop .inv in
+    (nearest-none (inv .0) (c .if1 .taken) (at-start .pre .1 .0 .0 .least), inv .1)
+
 distance-requires : tie.Need-distance-requires Inv-loop μ-loop
 distance-requires c κs =
-    let pre = c .before .before .before .before .before .pre in (pre .0, (pre .1 .0, omega (arith, c .loop-test .taken, pre .1 .0 .0 .long)))
+    let pre = c .before .before .before .before .before .before .pre in (pre .0, (pre .1 .0, omega (arith, c .before .loop-test .taken, pre .1 .0 .0 .long)))
 
 add-w : tie.Need-add-w Inv-loop μ-loop
 add-w c =
-    let loop-test = c .before .before .loop-test in
-    let pre = c .before .before .before .before .before .before .before .pre in omega (arith, loop-test .taken, pre .1 .0 .0 .long, few (pre .0))
+    let pre = c .before .before .before .before .before .before .before .before .pre in omega (arith, c .before .before .before .loop-test .taken, pre .1 .0 .0 .long, few (pre .0))
 
 loop-less : tie.Need-loop-less Inv-loop μ-loop
-loop-less c = omega (arith, c .before .before .loop-test .taken)
+loop-less c = omega (arith, c .before .before .before .loop-test .taken)
 
 loop-again : tie.Need-loop-again Inv-loop μ-loop
 loop-again c =
-    let loop-test = c .before .before .loop-test in
-    let pre = c .before .before .before .before .before .before .before .pre in
-    let inv = c .before .before .before .loop .inv in
+    let at-loop = c .before .before .before .before in
+    let pre = at-loop .before .before .before .before .pre in
+    let test = c .before .before .before .loop-test in
+    let inv = at-loop .loop .inv in
     let here = c .before .distance .ensures in
     ⊎-elim
     (λ w. rw (w .1, w .2) (
-      nearest-take (inv .0) here (omega (arith, loop-test .taken, pre .1 .0 .0 .long)) (omega (arith, inv .1)) (w .0 .taken),
+      nearest-take (inv .0) here (omega (arith, test .taken, pre .1 .0 .0 .long)) (omega (arith, inv .1)) (w .0 .taken),
       omega (arith, inv .1, w .0 .taken),
     ))
     (λ w. rw (w .1, w .2) (nearest-keep (inv .0) here (omega (arith, w .0 .left)), inv .1))
-    (c .if1 .came)
+    (c .if2 .came)
 
-returns : tie.Need-returns Inv-loop μ-loop
-returns c =
+returns-2 : tie.Need-returns-2 Inv-loop μ-loop
+returns-2 c =
+    let at-start = c .before .before .before .before .before in
     let inv = c .before .loop .inv in
-    let pre = c .before .before .before .before .before .pre in
-    (nearest-end (inv .0) (omega (arith, c .loop-test .left, pre .1 .0 .0 .long)), inv .1)
+    (nearest-end (inv .0) (omega (arith, c .loop-test .left, at-start .pre .1 .0 .0 .long)), inv .1)
 
 pub nearest-spec : {M : Type 1} → statement M
 nearest-spec =
@@ -85,8 +91,9 @@ nearest-spec =
     natural-at-requires
     sub-by
     loop-holds
+    returns
     distance-requires
     add-w
     loop-less
     loop-again
-    returns)
+    returns-2)

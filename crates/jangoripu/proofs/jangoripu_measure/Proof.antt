@@ -13,6 +13,7 @@ returns : tie.Need-returns
 returns c =
     let m = c .before .before .before .m .given in
     let fits = c .before .struct-told .given in
+    let given = c .before .before .before .before .before .before .shape-of .ensures in
     rw (
       back w64 (m .0 .0 .weight) (fits .0 .1),
       back w64 (m .0 .0 .total) (fits .1 .0 .1),
@@ -21,15 +22,21 @@ returns c =
       back w64 (m .0 .0 .edges) (fits .1 .1 .1 .1 .0 .1),
       back w64 (m .0 .0 .cover) (fits .1 .1 .1 .1 .1 .0 .1),
       back w64 (m .0 .0 .gap) (fits .1 .1 .1 .1 .1 .1 .0 .1),
-      ← c .before .before .before .before .before .before .kind-of .ensures,
+      ← given .0,
+      ← given .1,
+      ← given .2,
+      ← given .3,
     )
     (measuring-told (yields (m .0 .0)) (sym (ap measureSays (m .1)) ∙ c .before .before .before .before .before .measure .ensures))
 
 returns-2 : tie.Need-returns-2
 returns-2 c =
-    let r = c .before .before .before .refusal .given in
-    rw (c .number .ensures, ← c .before .before .before .before .before .before .kind-of .ensures)
-    (measuring-told (refuses (r .0 .0 .fault) (r .0 .0 .place)) (sym (ap measureSays (r .1)) ∙ c .before .before .before .before .before .measure .ensures))
+    let done = c .before .before .before .before .before .before .measure .ensures in
+    let r = c .before .before .before .before .refusal .given in
+    let told = c .tell .ensures in
+    let given = c .before .before .before .before .before .before .before .shape-of .ensures in
+    rw (told .0, told .1, ← given .0, ← given .1, ← given .2, ← given .3)
+    (measuring-told (refuses (r .0 .0 .fault) (r .0 .0 .place)) (sym (ap measureSays (r .1)) ∙ done))
 
 pub jangoripu-measure-spec : {M : Type 1} → statement M
 jangoripu-measure-spec =

@@ -14,9 +14,11 @@ returns c =
 
 returns-2 : tie.Need-returns-2
 returns-2 c =
-    let done = c .before .before .before .before .before .read-numbers .ensures in
-    let r = c .before .before .refusal .given in
-    rw (c .number .ensures, ← c .before .before .before .before .before .before .before .numbers-of .ensures)
+    let done = c .before .before .before .before .before .before .read-numbers .ensures in
+    let r = c .before .before .before .refusal .given in
+    let told = c .tell .ensures in
+    let given = c .before .before .before .before .before .before .before .before .numbers-of .ensures in
+    rw (told .0, told .1, ← given)
     (filling-told (refuses (r .0 .0 .fault) (r .0 .0 .place)) (sym (ap numbersSay (r .1)) ∙ done .0) (done .1))
 
 pub jangoripu-read-numbers-spec : {M : Type 1} → statement M

@@ -11,13 +11,15 @@ returns : tie.Need-returns
 returns c =
     let n = c .before .before .length .given in
     let done = c .before .before .before .before .before .before .write-subgraph .ensures in
-    rw (← c .before .before .before .before .before .before .before .before .kind-of .ensures) (text-written (yields (n .0 .0)) (sym (ap textSays (n .1)) ∙ done .0) (done .1))
+    let given = c .before .before .before .before .before .before .before .before .shape-of .ensures in
+    rw (← given .0, ← given .1, ← given .2, ← given .3) (text-written (yields (n .0 .0)) (sym (ap textSays (n .1)) ∙ done .0) (done .1))
 
 returns-2 : tie.Need-returns-2
 returns-2 c =
     let done = c .before .before .before .before .before .before .before .write-subgraph .ensures in
     let r = c .before .before .before .refusal .given in
-    rw (c .number .ensures, ← c .before .before .before .before .before .before .before .before .before .kind-of .ensures)
+    let given = c .before .before .before .before .before .before .before .before .before .shape-of .ensures in
+    rw (c .number .ensures, ← given .0, ← given .1, ← given .2, ← given .3)
     (text-written (refuses (r .0 .0 .fault) (r .0 .0 .place)) (sym (ap textSays (r .1)) ∙ done .0) (done .1))
 
 pub jangoripu-write-subgraph-spec : {M : Type 1} → statement M

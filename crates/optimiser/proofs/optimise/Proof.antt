@@ -11,42 +11,44 @@ use Rattle.optimiser.proofs.optimise.Tie as tie
 
 serve-all-requires : tie.Need-serve-all-requires
 serve-all-requires c κs =
-    let at-first-prices = c .before .before .before in
-    let pre = at-first-prices .before .before .before .before .before .pre in (
-      pre .0,
-      (
-        (pre .1 .0 .long, at-first-prices .first-prices .kept .1 .1 .1 .1 .0 ∙ pre .1 .1 .0 .0),
-        begun (pre .1 .1 .1) (at-first-prices .first-prices .ensures),
-      ),
-    )
+    let pre = c .before .before .before .before .before .before .before .before .before .pre in
+    let first = c .before .before .before .first-prices in
+    let lengths = pre .1 .1 .1 .0 in
+    (pre .0, (pre .1 .0, ((pre .1 .1 .0 .long, first .kept .1 .1 .1 .1 .0 ∙ lengths .0), begun (pre .1 .1 .1 .1) (first .ensures))))
 
 edge-prices-requires : tie.Need-edge-prices-requires
 edge-prices-requires c κs =
     let at-serve-all = c .before .before .before .before .before .before in
     let at-first-prices = at-serve-all .before .before .before .before in
-    let pre = at-first-prices .before .before .before .before .before .pre in
-    let served = at-serve-all .serve-all .ensures in
-    let long = at-serve-all .serve-all .kept .1 .1 .1 .1 .1 .1 .0 ∙ at-first-prices .first-prices .kept .1 .1 .1 .1 .0 ∙ pre .1 .1 .0 .0 in
-    (payable (pre .0 .passed) long (served .good), pre .1 .1 .0 .1)
+    let at-start = at-first-prices .before .before .before .before .before .before in
+    let serve = at-serve-all .serve-all in
+    let first = at-first-prices .first-prices in
+    let pre = at-start .pre in
+    let lengths = pre .1 .1 .1 .0 in
+    let long = serve .kept .1 .1 .1 .1 .1 .1 .1 .0 ∙ first .kept .1 .1 .1 .1 .0 ∙ lengths .0 in
+    (payable (pre .0 .passed) long (serve .ensures .good), lengths .1)
 
 lower-requires : tie.Need-lower-requires
 lower-requires c κs =
     let at-serve-all = c .before .before .before .before .before .before .before .before .before in
     let at-first-prices = at-serve-all .before .before .before .before in
-    let pre = at-first-prices .before .before .before .before .before .pre in
-    let served = at-serve-all .serve-all .ensures in
-    let long = at-serve-all .serve-all .kept .1 .1 .1 .1 .1 .1 .0 ∙ at-first-prices .first-prices .kept .1 .1 .1 .1 .0 ∙ pre .1 .1 .0 .0 in
-    levelled-all (levelled long (served .good))
+    let at-start = at-first-prices .before .before .before .before .before .before in
+    let serve = at-serve-all .serve-all in
+    let first = at-first-prices .first-prices in
+    let long = serve .kept .1 .1 .1 .1 .1 .1 .1 .0 ∙ first .kept .1 .1 .1 .1 .0 ∙ at-start .pre .1 .1 .1 .0 .0 in
+    levelled-all (levelled long (serve .ensures .good))
 
 returns : tie.Need-returns
 returns c =
     let at-edge-prices = c .before .before .before .before in
     let at-serve-all = at-edge-prices .before .before .before .before .before .before .before in
     let at-first-prices = at-serve-all .before .before .before .before in
-    let pre = at-first-prices .before .before .before .before .before .pre in
-    let served = at-serve-all .serve-all .ensures in
-    let long = at-serve-all .serve-all .kept .1 .1 .1 .1 .1 .1 .0 ∙ at-first-prices .first-prices .kept .1 .1 .1 .1 .0 ∙ pre .1 .1 .0 .0 in
-    solved (pre .0) (pre .1 .0) (served .good) (served .done)
+    let at-start = at-first-prices .before .before .before .before .before .before in
+    let serve = at-serve-all .serve-all in
+    let first = at-first-prices .first-prices in
+    let pre = at-start .pre in
+    let long = serve .kept .1 .1 .1 .1 .1 .1 .1 .0 ∙ first .kept .1 .1 .1 .1 .0 ∙ pre .1 .1 .1 .0 .0 in
+    solved (pre .0) (pre .1 .1 .0) (serve .ensures .good) (serve .ensures .done)
     (record { ofVertex = λ v l. c .before .lower .ensures v (omega (arith, long)); ofEdge = at-edge-prices .edge-prices .ensures })
 
 pub optimise-spec : {M : Type 1} → statement M

@@ -1,13 +1,12 @@
--- `solve_problem` lends the solver as much of each array as the graph gives, and writes the marks or the refusal that it answers.
-use native.Mathlib.Omega.{arith}
-use lib.IntN.{pos}
-use mathlib.Core.Path.{_≡_}
-use lib.ListN.{drop}
+-- `solve_problem` lends as much of an array for the index as the graph gives, and solves with what comes back, or writes the refusal.
+use Prim.Native.Nat.{ℕ}
+use mathlib.Core.Path.{_≡_, sym, _∙_}
 use denote.Ref.{now}
+use lib.ListN.{length, take}
 use Rattle.graph.specs.Graph.{Graph, graphOf}
-use Rattle.report.specs.Programs.{lentFor}
+use Rattle.graph.specs.Index.{indexNumbers}
 use Rattle.problem_reader.proofs.Lent.{PartBack, came-back}
-use Rattle.solve_writer.proofs.Answers.{noMarks, zeros-lent, lentParts, all-lent, refusal-left, solved-passed, part-marks, part-written}
+use Rattle.solve_writer.proofs.Answers.{zeros-lent, noIndex, index-fits, index-refused, index-solved}
 use borrow.Author.Needs.{needs}
 use Rattle.solve_writer.proofs.solve_problem.Statement.{statement}
 use Rattle.solve_writer.proofs.solve_problem.Tie as tie
@@ -16,62 +15,50 @@ use Rattle.solve_writer.proofs.solve_problem.Tie as tie
 abbrev graph : tie.Start → Graph
 graph s = graphOf (s .args .s) (now (s .args .row)) (now (s .args .column)) (now (s .args .weight))
 
--- When the solver has answered: the start, what was lent, and the marks that came back.
-abbrev counted : tie.After-solve → tie.After-vertex-count
-counted c = c .before .before .before .before .before .before
+-- When the index is built: the start, what was lent, and what came back.
+abbrev counted : tie.After-build-index → tie.After-index-numbers
+counted c = c .before .before
 
-abbrev begun : tie.After-solve → tie.Start
+abbrev begun : tie.After-build-index → tie.Start
 begun c = counted c .before .before .before .before
 
-lent : (c : tie.After-solve) → lentParts (graph (begun c)) (counted c .vertex-count .result) ≡ lentFor (graph (begun c))
-lent c = all-lent (graph (begun c)) (begun c .pre .0) (counted c .vertex-count .ensures)
+abbrev size : tie.After-build-index → ℕ
+size c = counted c .index-numbers .result
 
-back : (c : tie.After-solve) → PartBack (begun c .args .s .edges) noMarks (c .solve .last .1 .1 .1 .1 .1 .0)
-back c = came-back (begun c .args .s .edges) noMarks (begun c .pre .0 .few) (c .solve .kept .1 .1 .1 .1 .1 .0)
+lent : (c : tie.After-build-index) → length (take (size c) noIndex) ≡ indexNumbers (graph (begun c))
+lent c =
+    let is = counted c .index-numbers .ensures in
+    sym (zeros-lent 0 2177 (index-fits (graph (begun c)) (begun c .pre .0) is)) ∙ is
 
-slice-aggregate-solve : tie.Need-slice-aggregate-solve
-slice-aggregate-solve c = zeros-lent 0 1024 (c .before .before .before .before .before .before .pre .0 .few)
+back : (c : tie.After-build-index) → PartBack (size c) noIndex (c .build-index .last .1 .1 .1 .1 .0)
+back c =
+    came-back (size c) noIndex (index-fits (graph (begun c)) (begun c .pre .0) (counted c .index-numbers .ensures)) (c .build-index .kept .1 .1 .1 .1 .0)
 
-slice-aggregate-solve-2 : tie.Need-slice-aggregate-solve-2
-slice-aggregate-solve-2 c =
-    zeros-lent (pos 0) 128
-    (omega (arith, c .before .before .before .before .before .before .before .pre .0 .order, c .before .before .before .vertex-count .ensures))
+slice-aggregate-build-index : tie.Need-slice-aggregate-build-index
+slice-aggregate-build-index c =
+    let s = c .before .before .before .before .before in
+    zeros-lent 0 2177 (index-fits (graph s) (s .pre .0) (c .before .index-numbers .ensures))
 
-slice-aggregate-solve-3 : tie.Need-slice-aggregate-solve-3
-slice-aggregate-solve-3 c = zeros-lent (pos 0) 1024 (c .before .before .before .before .before .before .before .before .pre .0 .few)
+array-share-prefix-index : tie.Need-array-share-prefix-index
+array-share-prefix-index c = back (c .before .before .before) .room
 
-array-share-prefix-chosen : tie.Need-array-share-prefix-chosen
-array-share-prefix-chosen c = back (c .before .before .before .before .before .before .before) .room
-
-slice-aggregate-put-subgraph : tie.Need-slice-aggregate-put-subgraph
-slice-aggregate-put-subgraph c = back (c .before .before .before .before .before .before .before .before) .long
-
-put-subgraph-requires : tie.Need-put-subgraph-requires
-put-subgraph-requires c κs =
-    let r = c .before .before .before .before .before .before .before .before in
-    let s = begun r in
-    let done = r .solve .ensures in
-    let is = c .before .before .enum-told .given .1 in (
-      s .pre .1,
-      (
-        solved-passed (graph s) (now (s .args .bound)) (lent r) (done .0) is (done .1) .sound,
-        part-marks (graph s) (now (s .args .bound)) (lent r) (done .0) is (done .1) (drop (s .args .s .edges) noMarks),
-      ),
-    )
+slice-aggregate-solve-indexed : tie.Need-slice-aggregate-solve-indexed
+slice-aggregate-solve-indexed c = back (c .before .before .before .before) .long
 
 returns : tie.Need-returns
 returns c =
-    let r = c .before .before .before .before .before .before .before .before .before .before .before in
-    let s = begun r in
-    refusal-left (graph s) (now (s .args .bound)) (lent r) (r .solve .ensures .0) (c .before .before .before .before .before .refusal .given .1) (s .pre .1) (c .before .before .put-refused .ensures)
+    let b = c .before .before .before .before .before .before .before .before in
+    let s = begun b in
+    index-refused (graph s) (now (s .args .bound)) (lent b) (b .build-index .ensures .0) (c .before .before .before .before .before .refusal .given .1) (s .pre .1)
+    (c .before .before .put-refused .ensures)
 
 returns-2 : tie.Need-returns-2
 returns-2 c =
-    let r = c .before .before .before .before .before .before .before .before .before .before .before in
-    let s = begun r in
-    let done = r .solve .ensures in
-    part-written (graph s) (now (s .args .bound)) (lent r) (done .0) (c .before .before .before .before .before .enum-told .given .1) (done .1) (drop (s .args .s .edges) noMarks)
-    (s .pre .1) (c .before .before .put-subgraph .ensures (now (s .args .weight)))
+    let b = c .before .before .before .before .before .before .before .before in
+    let s = begun b in
+    let done = b .build-index .ensures in
+    index-solved (graph s) (now (s .args .bound)) (lent b) (done .0) (c .before .before .before .before .before .enum-told .given .1) (back b .same ∙ done .1)
+    (c .before .before .solve-indexed .ensures)
 
 pub solve-problem-spec : {M : Type 1} → statement M
 solve-problem-spec =
@@ -79,20 +66,14 @@ solve-problem-spec =
     (tie.spec
     (λ c κs. search needs)
     (λ c. search needs)
-    (λ c. search needs)
-    slice-aggregate-solve
-    (λ c. search needs)
-    slice-aggregate-solve-2
-    (λ c. search needs)
-    slice-aggregate-solve-3
-    (λ c. search needs)
+    slice-aggregate-build-index
     (λ c κs. search needs)
     (λ c. search needs)
     (λ c κs. search needs)
     (λ c. search needs)
-    array-share-prefix-chosen
-    slice-aggregate-put-subgraph
-    put-subgraph-requires
+    array-share-prefix-index
+    slice-aggregate-solve-indexed
+    (λ c κs. search needs)
     (λ c. search needs)
     returns
     (λ c. search needs)

@@ -3,6 +3,7 @@ use mathlib.Core.Path.{sym, ap, _∙_}
 use lib.ListN.{length, replicate}
 use Rattle.graph.specs.Refusal.{told}
 use Rattle.graph.specs.Graph.{Graph, graphOf}
+use Rattle.graph.proofs.Index.{index-given}
 use Rattle.checks.specs.Checks.{checkSays}
 use Rattle.dual.specs.Solve.{Lent, lentOf}
 use Rattle.duality.proofs.Passed.{solve-passed}
@@ -25,29 +26,32 @@ returns c =
     let at-clear-integers = at-clear-integers2 .before .before .before in
     let at-clear-bytes = at-clear-integers .before .before .before .before in
     let at-tested = at-clear-bytes .before .before in
-    let start = at-tested .before .before .before .before in
+    let start = at-tested .before .before .before .before .before in
     let says = sym (ap checkSays (c .before .check .given .1)) ∙ at-tested .tested .ensures in (
       ap told says,
-      left-zero (lent start) says (at-clear-bytes .clear-bytes .ensures) (at-clear-integers .clear-integers .ensures)
+      left-zero (start .args .index .now) (lent start) says (at-clear-bytes .clear-bytes .ensures) (at-clear-integers .clear-integers .ensures)
           (at-clear-integers2 .clear-integers2 .ensures) (at-clear-integers3 .clear-integers3 .ensures),
     )
 
 optimise-requires : tie.Need-optimise-requires
 optimise-requires c κs =
-    let at-enum-told = c .before .before .before in
-    let at-clear-integers2 = at-enum-told .before .before .before .before .before .before in
+    let at-clear-integers2 = c .before .before .before .before .before .before .before .before .before in
     let at-clear-integers = at-clear-integers2 .before .before .before in
     let at-clear-bytes = at-clear-integers .before .before .before .before in
     let at-tested = at-clear-bytes .before .before in
-    let start = at-tested .before .before .before .before in
-    let P = solve-passed (graph start) (start .args .bound .now) (lent start)
-    (sym (at-tested .tested .ensures) ∙ ap checkSays (at-enum-told .enum-told .given .1)) in (
+    let start = at-tested .before .before .before .before .before in
+    let g = graph start in
+    let index = start .args .index .now in
+    let P = solve-passed g (start .args .bound .now) index (lent start) (sym (at-tested .tested .ensures) ∙ ap checkSays (c .before .before .before .enum-told .given .1)) in (
       record { bipartite = P .bipartite; passed = P .passed },
       (
-        P .bounded,
+        index-given g index (P .passed .sound) (P .indexLong) (P .indexPasses),
         (
-          (at-clear-integers .clear-integers .kept .0 ∙ P .vertexLong, at-clear-integers2 .clear-integers2 .kept .0 ∙ P .edgeLong),
-          at-clear-bytes .clear-bytes .ensures ∙ ap (λ n. replicate n 0) (P .chosenLong),
+          P .bounded,
+          (
+            (at-clear-integers .clear-integers .kept .0 ∙ P .vertexLong, at-clear-integers2 .clear-integers2 .kept .0 ∙ P .edgeLong),
+            at-clear-bytes .clear-bytes .ensures ∙ ap (λ n. replicate n 0) (P .chosenLong),
+          ),
         ),
       ),
     )
@@ -61,11 +65,12 @@ returns-2 c =
     let at-clear-integers = at-clear-integers2 .before .before .before in
     let at-clear-bytes = at-clear-integers .before .before .before .before in
     let at-tested = at-clear-bytes .before .before in
-    let start = at-tested .before .before .before .before in
+    let start = at-tested .before .before .before .before .before in
     let says = sym (at-tested .tested .ensures) ∙ ap checkSays (at-enum-told .enum-told .given .1) in
-    let kept = at-optimise .optimise .kept .1 .1 .1 .1 .1 in (
+    let optimise = at-optimise .optimise in
+    let kept = optimise .kept .1 .1 .1 .1 .1 .1 in (
       ap told (sym says),
-      left-solved (lent start) says (at-optimise .optimise .ensures)
+      left-solved (start .args .index .now) (lent start) says (optimise .ensures)
           (kept .0 ∙ at-clear-bytes .clear-bytes .kept .0)
           (kept .1 .0 ∙ at-clear-integers .clear-integers .kept .0)
           (kept .1 .1 .0 ∙ at-clear-integers2 .clear-integers2 .kept .0)

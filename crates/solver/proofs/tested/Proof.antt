@@ -17,60 +17,73 @@ lent c = let l = c .args .outputs in lentOf (l .chosen) (l .vertex) (l .edge) (l
 
 returns : tie.Need-returns
 returns c =
-    let at-check-lent = c .before .before .before in
-    let at-others-match = at-check-lent .before in
-    let start = at-others-match .before .before .before in
-    Refusing.first-refused (graph start) (start .args .bound .now) (lent start) (at-others-match .others-match .ensures)
-    (at-check-lent .check-lent .ensures) (c .before .r .given .1)
+    let at-others-match = c .before .before .before .before in
+    let start = at-others-match .before .before .before .before in
+    let a = start .args in
+    Refusing.first-refused (graph start) (a .bound .now) (a .index .now) (lent start)
+    (at-others-match .others-match .ensures) (c .before .before .before .check-lent .ensures) (c .before .r .given .1)
 
 refused-item-requires : tie.Need-refused-item-requires
 refused-item-requires c κs =
-    let at-lowest-bound = c .before .before .before in
-    let at-enum-told = at-lowest-bound .before in
+    let at-enum-told = c .before .before .before .before in
     let at-check-lent = at-enum-told .before .before in
     let at-others-match = at-check-lent .before in
-    let start = at-others-match .before .before .before in
-    let bound = sym (at-lowest-bound .lowest-bound .ensures) ∙ ap lowestSays (c .before .v .given .1) in
-    Refusing.bound-among (graph start) (start .args .bound .now) (lent start) (at-others-match .others-match .ensures)
+    let start = at-others-match .before .before .before .before in
+    let a = start .args in
+    let bound = sym (c .before .before .before .lowest-bound .ensures) ∙ ap lowestSays (c .before .v .given .1) in
+    Refusing.bound-among (graph start) (a .bound .now) (a .index .now) (lent start) (at-others-match .others-match .ensures)
     (at-check-lent .check-lent .ensures) (at-enum-told .enum-told .given .1) _ bound
 
 returns-2 : tie.Need-returns-2
 returns-2 c =
-    let v = c .before .before .v in
     let at-lowest-bound = c .before .before .before .before in
     let at-enum-told = at-lowest-bound .before in
     let at-check-lent = at-enum-told .before .before in
     let at-others-match = at-check-lent .before in
-    let start = at-others-match .before .before .before in
-    let bound = sym (at-lowest-bound .lowest-bound .ensures) ∙ ap lowestSays (v .given .1) in
+    let start = at-others-match .before .before .before .before in
+    let a = start .args in
+    let bound = sym (at-lowest-bound .lowest-bound .ensures) ∙ ap lowestSays (c .before .before .v .given .1) in
     c .refused-item .ensures
-    ∙ Refusing.bound-refused (graph start) (start .args .bound .now) (lent start) (at-others-match .others-match .ensures)
+    ∙ Refusing.bound-refused (graph start) (a .bound .now) (a .index .now) (lent start) (at-others-match .others-match .ensures)
     (at-check-lent .check-lent .ensures) (at-enum-told .enum-told .given .1) _ bound
 
 returns-3 : tie.Need-returns-3
 returns-3 c =
-    let at-enum-told2 = c .before .before .before in
-    let at-lowest-bound = at-enum-told2 .before .before in
+    let at-lowest-bound = c .before .before .before .before .before in
     let at-enum-told = at-lowest-bound .before in
     let at-check-lent = at-enum-told .before .before in
     let at-others-match = at-check-lent .before in
-    let start = at-others-match .before .before .before in
-    let bounds = sym (at-lowest-bound .lowest-bound .ensures) ∙ ap lowestSays (at-enum-told2 .enum-told2 .given .1) in
+    let start = at-others-match .before .before .before .before in
+    let a = start .args in
+    let bounds = sym (at-lowest-bound .lowest-bound .ensures) ∙ ap lowestSays (c .before .before .before .enum-told2 .given .1) in
     ap checkSays (c .refused .ensures)
-    ∙ Refusing.kind-refused (graph start) (start .args .bound .now) (lent start) (at-others-match .others-match .ensures)
+    ∙ Refusing.kind-refused (graph start) (a .bound .now) (a .index .now) (lent start) (at-others-match .others-match .ensures)
     (at-check-lent .check-lent .ensures) (at-enum-told .enum-told .given .1) bounds (c .before .enum-told3 .given .1)
 
-returns-4 : tie.Need-returns-4
-returns-4 c =
-    let enum-told2 = c .before .before .enum-told2 in
+check-places-requires : tie.Need-check-places-requires
+check-places-requires c κs =
     let at-lowest-bound = c .before .before .before .before in
     let at-enum-told = at-lowest-bound .before in
     let at-check-lent = at-enum-told .before .before in
     let at-others-match = at-check-lent .before in
-    let start = at-others-match .before .before .before in
-    let bounds = sym (at-lowest-bound .lowest-bound .ensures) ∙ ap lowestSays (enum-told2 .given .1) in
-    Refusing.none-refused (graph start) (start .args .bound .now) (lent start) (at-others-match .others-match .ensures)
-    (at-check-lent .check-lent .ensures) (at-enum-told .enum-told .given .1) bounds (c .enum-told4 .given .1)
+    let start = at-others-match .before .before .before .before in
+    let a = start .args in
+    let bounds = sym (at-lowest-bound .lowest-bound .ensures) ∙ ap lowestSays (c .before .before .enum-told2 .given .1) in
+    Refusing.indexable (graph start) (a .bound .now) (a .index .now) (lent start) (at-others-match .others-match .ensures) (at-check-lent .check-lent .ensures)
+    (at-enum-told .enum-told .given .1) bounds
+
+returns-4 : tie.Need-returns-4
+returns-4 c =
+    let at-lowest-bound = c .before .before .before .before .before in
+    let at-enum-told = at-lowest-bound .before in
+    let at-check-lent = at-enum-told .before .before in
+    let at-others-match = at-check-lent .before in
+    let start = at-others-match .before .before .before .before in
+    let a = start .args in
+    let bounds = sym (at-lowest-bound .lowest-bound .ensures) ∙ ap lowestSays (c .before .before .before .enum-told2 .given .1) in
+    c .check-places .ensures
+    ∙ Refusing.index-last (graph start) (a .bound .now) (a .index .now) (lent start) (at-others-match .others-match .ensures) (at-check-lent .check-lent .ensures)
+    (at-enum-told .enum-told .given .1) bounds (c .before .enum-told4 .given .1)
 
 pub tested-spec : {M : Type 1} → statement M
 tested-spec =
@@ -90,4 +103,5 @@ tested-spec =
     (λ c κs. search needs)
     returns-3
     (λ c. search needs)
+    check-places-requires
     returns-4)

@@ -1,6 +1,7 @@
 //! Times the proved calls beside the separately written program, in one run. Buffers are cleared before each call.
 
 use compare::graphs::Lent;
+use compare::indexes::{Building, Testing};
 use compare::measures::Measuring;
 use compare::proved;
 use reference::{Kind, Random};
@@ -101,17 +102,48 @@ fn measures() {
     }
 }
 
+fn indexes() {
+    for edges in [256, 512, 1024] {
+        let mut random = Random::new(4);
+        let sheets = (0..101).map(|_| sheet(&mut random, 64, edges).0);
+        let inputs: Vec<_> = sheets.map(|lent| (lent.index(), lent)).collect();
+        let mut out = vec![0u32; 2177];
+        let [ours, theirs] =
+            [proved::build_index, reference::build_index as Building].map(|build| {
+                median(&inputs, |(index, lent)| {
+                    let out = &mut out[..index.len()];
+                    out.fill(0);
+                    black_box(build(&lent.lend(), out)).unwrap();
+                })
+            });
+        show(&format!("build the index, {edges} edges"), ours, theirs);
+        let [ours, theirs] = [proved::test_index, reference::test_index as Testing].map(|test| {
+            median(&inputs, |(index, lent)| {
+                black_box(test(&lent.lend(), index)).unwrap();
+            })
+        });
+        show(&format!("test the index, {edges} edges"), ours, theirs);
+    }
+}
+
 fn solvers() {
     for (side, edges) in [
+        (16, 64),
         (16, 128),
+        (16, 256),
         (32, 256),
+        (32, 512),
         (32, 1024),
+        (64, 128),
         (64, 256),
         (64, 512),
         (64, 1024),
     ] {
         let mut random = Random::new(3);
-        let inputs: Vec<_> = (0..100).map(|_| sheet(&mut random, side, edges)).collect();
+        let sheets = (0..100).map(|_| sheet(&mut random, side, edges));
+        let inputs: Vec<_> = sheets
+            .map(|(lent, bound)| (lent.index(), lent, bound))
+            .collect();
         let mut out = (
             vec![0u8; 1024],
             vec![0i32; 128],
@@ -119,7 +151,7 @@ fn solvers() {
             vec![0i32; 4096],
         );
         let mut solve = |proved: bool| {
-            median(&inputs, |(lent, bound)| {
+            median(&inputs, |(index, lent, bound)| {
                 let (n, m) = (lent.vertices(), lent.row.len());
                 out.0.fill(0);
                 out.1.fill(0);
@@ -131,7 +163,8 @@ fn solvers() {
                 } else {
                     reference::solve
                 };
-                black_box(call(&lent.lend(), bound, chosen, vertex, edge, &mut out.3)).unwrap();
+                let g = lent.lend();
+                black_box(call(&g, bound, index, chosen, vertex, edge, &mut out.3)).unwrap();
             })
         };
         let (ours, theirs) = (solve(true), solve(false));
@@ -146,5 +179,6 @@ fn solvers() {
 fn main() {
     readers();
     measures();
+    indexes();
     solvers();
 }

@@ -1,11 +1,12 @@
 //! Compares the proved calls with the separately written program.
 
 use compare::tally::finish;
-use compare::{measures, readers, solves};
+use compare::{indexes, measures, readers, solves};
 
 fn main() {
     let mut results = readers::compare(2_026, 60_000);
     results.extend(measures::compare(2_027, 120_000));
+    results.extend(indexes::compare(2_030, 40_000));
     results.extend(solves::compare(2_028, 32_000));
     finish(&results);
 }

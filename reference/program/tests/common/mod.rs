@@ -110,6 +110,24 @@ pub fn written(graph: &Graph, chosen: &[u8]) -> Result<Vec<u8>, Refusal> {
     }
 }
 
+/// Building an index, with an output of the length that the numbers passed give.
+pub fn built(graph: &Graph) -> Result<Vec<u32>, Refusal> {
+    let mut index = vec![7; vertices(graph) + 1 + 2 * graph.edges as usize];
+    match build_index(graph, &mut index) {
+        Ok(()) => Ok(index),
+        Err(refusal) => {
+            assert!(index.iter().all(|&x| x == 0));
+            Err(refusal)
+        }
+    }
+}
+
+/// The graph's index, or as many numbers where it has none.
+pub fn index_or_zeros(graph: &Graph) -> Vec<u32> {
+    let length = vertices(graph) + 1 + 2 * graph.edges as usize;
+    built(graph).unwrap_or(vec![0; length])
+}
+
 /// What the solver hands out.
 #[derive(Clone, Debug, PartialEq, Eq)]
 pub struct Solved {
@@ -118,8 +136,14 @@ pub struct Solved {
     pub edge_price: Vec<i32>,
 }
 
-/// The solver, with outputs of the lengths that the numbers passed give.
+/// The solver, with the graph's index and with outputs of the lengths that the
+/// numbers passed give.
 pub fn solved(graph: &Graph, bound: &[i32]) -> Result<Solved, Refusal> {
+    solved_with(graph, bound, &index_or_zeros(graph))
+}
+
+/// The solver, with an index that may be wrong.
+pub fn solved_with(graph: &Graph, bound: &[i32], index: &[u32]) -> Result<Solved, Refusal> {
     let (n, m) = (vertices(graph), graph.edges as usize);
     let mut out = Solved {
         chosen: vec![7; m],
@@ -130,6 +154,7 @@ pub fn solved(graph: &Graph, bound: &[i32]) -> Result<Solved, Refusal> {
     let result = solve(
         graph,
         bound,
+        index,
         &mut out.chosen,
         &mut out.vertex_price,
         &mut out.edge_price,
@@ -221,7 +246,7 @@ pub fn measures(line: [i64; 7]) -> Measures {
     }
 }
 
-/// Tests that all four calls that take a graph refuse it so, given other
+/// Tests that all six calls that take a graph refuse it so, given other
 /// numbers of right lengths.
 pub fn all_refuse(graph: &Graph, expected: Refusal) {
     let (n, m) = (vertices(graph), graph.edges as usize);
@@ -229,6 +254,9 @@ pub fn all_refuse(graph: &Graph, expected: Refusal) {
     let (vertex_price, edge_price) = (vec![0; n], vec![0; m]);
     assert_eq!(subgraph_of(b"", graph), Err(expected));
     assert_eq!(written(graph, &chosen), Err(expected));
+    assert_eq!(built(graph), Err(expected));
+    let index = index_or_zeros(graph);
+    assert_eq!(test_index(graph, &index), Err(expected));
     assert_eq!(solved(graph, &bound), Err(expected));
     let found = measured(
         graph,
