@@ -12,6 +12,10 @@
  * offsets and then 2m edge numbers, grouped by vertex, rising within a vertex. The first offset is 0 and the last 2m; vertex v has the
  * edge numbers at [n + 1 + index[v - 1]] up to, not including, [n + 1 + index[v]]. So each edge stands there twice, once for each end.
  *
+ * A number in a text has one way to be written: 1 to 9 digits with no leading zero, unless it is the single digit 0, and - before a
+ * weight, bound or price below 0. So 07, +7 and -0 are malformed: JANGORIPU_SIZE_LINE on a size line, JANGORIPU_LATER_LINE elsewhere. The
+ * program rewrite puts texts that were stored with such numbers right.
+ *
  * A slice is passed as a pointer and then its length, in numbers, which is exactly what is said at the call. A pointer may point
  * anywhere if its length is 0, but is NOT NULL; the layer below takes care of that. Slices that are written overlap no other.
  *

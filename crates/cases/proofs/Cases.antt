@@ -14,11 +14,11 @@ use Rattle.graph.specs.Graph.{Graph}
 use Rattle.graph.specs.Subgraph.{weightOf}
 use Rattle.graph.proofs.Passing.{zero-one}
 use Rattle.graph.proofs.Ranges.{both}
-use Rattle.layout.specs.Text.{bytes, onFirst, pieces, nonEmpty, lines, words, digitsAfter, natural, integer, oneWord, twoWords, threeWords, same}
+use Rattle.layout.specs.Text.{bytes, onFirst, pieces, nonEmpty, lines, words, digitsAfter, numeral, natural, integer, oneWord, twoWords, threeWords, same}
 use Rattle.layout.specs.Text.{sameFolded, headerWords, header, digits, spaced, unlines}
 use Rattle.layout.specs.Lines.{onLine, atEnd, readLines}
-use Rattle.layout.specs.GraphText.{readGraph}
-use Rattle.layout.specs.NumberText.{readNumbers}
+use Rattle.layout.specs.GraphText.{readGraphBy}
+use Rattle.layout.specs.NumberText.{readNumbersBy}
 use Rattle.dual.specs.declared.Measures.{Measures}
 use Rattle.dual.specs.Sets.{capacity}
 use Rattle.dual.specs.Measure.{measure}
@@ -84,7 +84,7 @@ every-member test P law (x ∷ xs) e =
     let s = both (test x) (all test xs) e in (law x (s .0), every-member test P law xs (s .1))
 
 computed : tableHolds ≡ true
-unfolding table measure solve readGraph readNumbers measuredLine onLine atEnd readLines lines words pieces onFirst nonEmpty digitsAfter natural
+unfolding table measure solve readGraphBy readNumbersBy measuredLine onLine atEnd readLines lines words pieces onFirst nonEmpty digitsAfter numeral natural
     integer oneWord twoWords threeWords same sameFolded headerWords header digits spaced unlines
 computed = refl
 

@@ -20,11 +20,13 @@ use Rattle.graph.specs.Refusal.{Outcome, yields, refuses, told, reported, fille
 use Rattle.graph.specs.Graph.{Graph, graphOf, shapeOf, shapeInRange, joined}
 use Rattle.graph.proofs.Ranges.{sizes-hold}
 use Rattle.graph.proofs.Passed.{weight-hold}
+use Rattle.layout.specs.declared.Rules.{Rules}
+use Rattle.layout.specs.declared.Field.{Field}
 use Rattle.layout.specs.declared.GraphAnswer.{GraphAnswer}
 use Rattle.layout.specs.declared.GraphAnswer.the-variants as GraphAnswer
-use Rattle.layout.specs.Text.{words, natural, integer, threeWords}
+use Rattle.layout.specs.Text.{words}
 use Rattle.layout.specs.Lines.{Step, goes, stops, reading, readText}
-use Rattle.layout.specs.GraphText.{noEdges, withEdge, graphEdge, graphLayout}
+use Rattle.layout.specs.GraphText.{noEdges, withEdge, edgeOn, graphEdge, graphLayout}
 use Rattle.text.specs.declared.Cursor.{Cursor}
 use Rattle.checks.specs.Checks.{Flagged, flagAt, Seen}
 use Rattle.checks.proofs.Ranges.{ends-flagged}
@@ -40,16 +42,17 @@ use Rattle.graph_reader.specs.declared.TextEdge.{TextEdge}
 use Rattle.graph_reader.specs.declared.TextEdge.the-variants as TextEdge
 
 -- A refusal reports itself, whatever the outputs hold.
-pub read-refused : {s : List ℕ} {row column : List ℕ} {weight : List ℤ} (x : Refusal) → refuses (x .fault) (x .place) ≡ readText graphLayout s →
-    GraphReading s (GraphAnswer.Refused x) row column weight
+pub read-refused : {rules : Rules} {field : Field} {s : List ℕ} {row column : List ℕ} {weight : List ℤ} (x : Refusal) →
+    refuses (x .fault) (x .place) ≡ readText (graphLayout rules field) s →
+    GraphReading rules field s (GraphAnswer.Refused x) row column weight
 read-refused x e = record { says = ap (λ (o : Outcome Graph). told (reported shapeOf o)) e; rows = holds-refused (sym e); columns = holds-refused (sym e); weights = holds-refused (sym e) }
 
 -- The loop has read i edges of the shape's, into outputs as long as at the start.
-pub record EdgeTurn (t : Shape) (s : List ℕ) (j k m : ℕ) (row column : List ℕ) (weight : List ℤ) (seen : List ℕ) (c : Cursor) (i : ℕ) : Type 0 where
+pub record EdgeTurn (rules : Rules) (field : Field) (t : Shape) (s : List ℕ) (j k m : ℕ) (row column : List ℕ) (weight : List ℤ) (seen : List ℕ) (c : Cursor) (i : ℕ) : Type 0 where
   pub rowsRead : List ℕ
   pub columnsRead : List ℕ
   pub weightsRead : List ℤ
-  pub walk : Walk graphLayout s c (reading (graphOf t rowsRead columnsRead weightsRead))
+  pub walk : Walk (graphLayout rules field) s c (reading (graphOf t rowsRead columnsRead weightsRead))
   pub rowCount : length rowsRead ≡ i
   pub columnCount : length columnsRead ≡ i
   pub weightCount : length weightsRead ≡ i
@@ -64,9 +67,9 @@ pub record EdgeTurn (t : Shape) (s : List ℕ) (j k m : ℕ) (row column : List 
   pub weightSame : length weight ≡ m
 
 pub turn-starts :
-    {t : Shape} {s : List ℕ} {row column : List ℕ} {weight : List ℤ} {c : Cursor} → Walk graphLayout s c (reading (noEdges t)) →
+    {rules : Rules} {field : Field} {t : Shape} {s : List ℕ} {row column : List ℕ} {weight : List ℤ} {c : Cursor} → Walk (graphLayout rules field) s c (reading (noEdges t)) →
     shapeInRange t ≡ true → Cleared 1024 1024 1024 row column weight
-    → (seen : List ℕ) → Seen seen [] [] 0 → EdgeTurn t s (length row) (length column) (length weight) row column weight seen c 0
+    → (seen : List ℕ) → Seen seen [] [] 0 → EdgeTurn rules field t s (length row) (length column) (length weight) row column weight seen c 0
 turn-starts w sizes Z seen flags = record {
   rowsRead = [];
   columnsRead = [];
@@ -97,8 +100,8 @@ takes z xs {i} x y holds count below same =
 counts : {N : Type 0} (xs : List N) (x : N) {i : ℕ} → length xs ≡ i → length (xs ++ (x ∷ [])) ≡ i + 1
 counts xs x e = length-append xs (x ∷ []) ∙ ap (λ k. k + 1) e
 
-module _ {t : Shape} {s : List ℕ} {j k m : ℕ} {row column : List ℕ} {weight : List ℤ} {seen : List ℕ} {c : Cursor} {i : ℕ}
-    (T : EdgeTurn t s j k m row column weight seen c i) where
+module _ {rules : Rules} {field : Field} {t : Shape} {s : List ℕ} {j k m : ℕ} {row column : List ℕ} {weight : List ℤ} {seen : List ℕ} {c : Cursor} {i : ℕ}
+    (T : EdgeTurn rules field t s j k m row column weight seen c i) where
   abbrev graph : Graph
   graph = graphOf t (T .rowsRead) (T .columnsRead) (T .weightsRead)
 
@@ -122,9 +125,9 @@ module _ {t : Shape} {s : List ℕ} {j k m : ℕ} {row column : List ℕ} {weigh
     right : ltb (length (T .rowsRead)) (t .edges) ≡ ltb i (t .edges)
     right = ap (λ k. ltb k (t .edges)) (T .rowCount)
 
-    pub turn-done : r ≡ Later.Done → GraphReading s (GraphAnswer.Graph t) row column weight
+    pub turn-done : r ≡ Later.Done → GraphReading rules field s (GraphAnswer.Graph t) row column weight
     turn-done is =
-        let e : yields graph ≡ readText graphLayout s = later-yields graphLayout (T .walk) right F is in
+        let e : yields graph ≡ readText (graphLayout rules field) s = later-yields (graphLayout rules field) (T .walk) right F is in
         record {
           says = ap (λ (o : Outcome Graph). told (reported shapeOf o)) e;
           rows = holds-yields (sym e) (T .rowHolds);
@@ -132,8 +135,8 @@ module _ {t : Shape} {s : List ℕ} {j k m : ℕ} {row column : List ℕ} {weigh
           weights = holds-yields (sym e) (T .weightHolds);
         }
 
-    pub turn-refused : {x : Refusal} → r ≡ Later.Refused x → GraphReading s (GraphAnswer.Refused x) row column weight
-    turn-refused {x} is = read-refused x (later-refused graphLayout (T .walk) right F is)
+    pub turn-refused : {x : Refusal} → r ≡ Later.Refused x → GraphReading rules field s (GraphAnswer.Refused x) row column weight
+    turn-refused {x} is = read-refused x (later-refused (graphLayout rules field) (T .walk) right F is)
 
     module _ {a e : ℕ} {d : Cursor} (is : r ≡ Later.At a e d) where
       pub turn-below : i < 1024
@@ -142,13 +145,13 @@ module _ {t : Shape} {s : List ℕ} {j k m : ℕ} {row column : List ℕ} {weigh
       module _ {l : TextEdge}
           (does : (row column : List ℕ) (weight : List ℤ) →
           edgeSays (graphOf t row column weight) l
-          ≡ graphEdge (graphOf t row column weight) (threeWords natural natural integer (words (part s a e)))) where
-        line-does : (o : TextEdge) → l ≡ o → graphEdge graph (threeWords natural natural integer (words (part s a e))) ≡ edgeSays graph o
+          ≡ graphEdge (graphOf t row column weight) (edgeOn rules field (words (part s a e)))) where
+        line-does : (o : TextEdge) → l ≡ o → graphEdge graph (edgeOn rules field (words (part s a e))) ≡ edgeSays graph o
         line-does o it = sym (does (T .rowsRead) (T .columnsRead) (T .weightsRead)) ∙ ap (edgeSays graph) it
 
         pub turn-stops : {f : Fault} → l ≡ TextEdge.Refused f → {x : Refusal} → x ≡ record { fault = f; place = d .line } →
-            GraphReading s (GraphAnswer.Refused x) row column weight
-        turn-stops {f} it {x} same = read-refused x (later-stops graphLayout (T .walk) right F is f (line-does (TextEdge.Refused f) it) same)
+            GraphReading rules field s (GraphAnswer.Refused x) row column weight
+        turn-stops {f} it {x} same = read-refused x (later-stops (graphLayout rules field) (T .walk) right F is f (line-does (TextEdge.Refused f) it) same)
 
         module _ {p q : ℕ} {w : ℤ} (it : l ≡ TextEdge.Is p q w) (inRange : EdgeInRange t l) where
           in-range : EdgeRanged t p q w
@@ -159,23 +162,23 @@ module _ {t : Shape} {s : List ℕ} {j k m : ℕ} {row column : List ℕ} {weigh
 
           module _ {x : Bool} (noted : x ≡ eqb (getD seen (flagAt p q) 0) 1) where
             noted-does : (b : Bool) → x ≡ b →
-                graphEdge graph (threeWords natural natural integer (words (part s a e))) ≡ cond b (stops SameEnds) (goes (withEdge graph p q w))
+                graphEdge graph (edgeOn rules field (words (part s a e))) ≡ cond b (stops SameEnds) (goes (withEdge graph p q w))
             noted-does b e =
                 line-does (TextEdge.Is p q w) it
                 ∙ ap (λ (y : Bool). cond {A = Step Graph} y (stops SameEnds) (goes (withEdge graph p q w)))
                 (ap (λ j. joined graph j p q) (T .rowCount) ∙ sym (seen-flag (T .flags) (turn-flagged .0) (turn-flagged .1)) ∙ sym noted ∙ e)
 
             pub turn-repeats : x ≡ true → {y : Refusal} → y ≡ record { fault = SameEnds; place = d .line } →
-                GraphReading s (GraphAnswer.Refused y) row column weight
-            turn-repeats e {y} same = read-refused y (later-stops graphLayout (T .walk) right F is SameEnds (noted-does true e) same)
+                GraphReading rules field s (GraphAnswer.Refused y) row column weight
+            turn-repeats e {y} same = read-refused y (later-stops (graphLayout rules field) (T .walk) right F is SameEnds (noted-does true e) same)
 
             pub turn-takes : x ≡ false → (new : List ℕ) → new ≡ set seen (flagAt p q) 1 →
-                EdgeTurn t s j k m (set row i p) (set column i q) (set weight i (toZ w32 (ofZ w32 w))) new d (i + 1)
+                EdgeTurn rules field t s j k m (set row i p) (set column i q) (set weight i (toZ w32 (ofZ w32 w))) new d (i + 1)
             turn-takes e new put = record {
               rowsRead = T .rowsRead ++ (p ∷ []);
               columnsRead = T .columnsRead ++ (q ∷ []);
               weightsRead = T .weightsRead ++ (w ∷ []);
-              walk = later-goes graphLayout (T .walk) right F is (withEdge graph p q w) (noted-does false e);
+              walk = later-goes (graphLayout rules field) (T .walk) right F is (withEdge graph p q w) (noted-does false e);
               rowCount = counts (T .rowsRead) p (T .rowCount);
               columnCount = counts (T .columnsRead) q (T .columnCount);
               weightCount = counts (T .weightsRead) w (T .weightCount);

@@ -10,6 +10,8 @@ use Rattle.graph.specs.declared.Fault.the-variants.{SameEnds}
 use Rattle.graph.specs.Limits.{mostEdges}
 use Rattle.graph.specs.Refusal.{told, reported}
 use Rattle.graph.specs.Graph.{Graph, shapeOf, shapeInRange, endsInRange, weightInRange, joined}
+use Rattle.layout.specs.declared.Rules.{Rules}
+use Rattle.layout.specs.declared.Field.{Field}
 use Rattle.layout.specs.declared.GraphAnswer.{GraphAnswer}
 use Rattle.layout.specs.Lines.{Step, goes, stops, readText}
 use Rattle.layout.specs.GraphText.{noEdges, withEdge, graphLayout}
@@ -48,9 +50,9 @@ abbrev pub EdgeInRange : Shape → TextEdge → Type 0
 EdgeInRange s (TextEdge.Is r c w) = EdgeRanged s r c w
 EdgeInRange s (TextEdge.Refused f) = Unit {0}
 
--- The answer r is what reading the text s yields, and the three outputs hold its edges.
-pub record GraphReading (s : List ℕ) (r : GraphAnswer) (row column : List ℕ) (weight : List ℤ) : Type 0 where
-  pub says : graphSays r ≡ told (reported shapeOf (readText graphLayout s))
-  pub rows : Holds mostEdges 0 (λ (g : Graph). g .row) (readText graphLayout s) row
-  pub columns : Holds mostEdges 0 (λ (g : Graph). g .column) (readText graphLayout s) column
-  pub weights : Holds mostEdges (pos 0) (λ (g : Graph). g .weight) (readText graphLayout s) weight
+-- The answer r is what reading the text s by the rules, with the field, yields, and the three outputs hold its edges.
+pub record GraphReading (rules : Rules) (field : Field) (s : List ℕ) (r : GraphAnswer) (row column : List ℕ) (weight : List ℤ) : Type 0 where
+  pub says : graphSays r ≡ told (reported shapeOf (readText (graphLayout rules field) s))
+  pub rows : Holds mostEdges 0 (λ (g : Graph). g .row) (readText (graphLayout rules field) s) row
+  pub columns : Holds mostEdges 0 (λ (g : Graph). g .column) (readText (graphLayout rules field) s) column
+  pub weights : Holds mostEdges (pos 0) (λ (g : Graph). g .weight) (readText (graphLayout rules field) s) weight

@@ -1,10 +1,11 @@
--- The text of a graph (sheet), and what the graph reader yields.
+-- The text of a graph (sheet), and what the graph reader yields. A text without weights, whose field is `pattern`, is read alike, each weight as 0:
+-- it is the text of a subgraph (plan) without its graph.
 use Prim.Native.Nat.{ℕ}
 use mathlib.Core.Bool.{cond, _&&_}
 use mathlib.Core.List.{List, [], _∷_, _++_}
-use mathlib.Core.Option.{Option, none, some}
+use mathlib.Core.Option.{Option, none, some, Option·map}
 use lib.Dec.{ltb, eqb}
-use lib.IntN.{ℤ}
+use lib.IntN.{ℤ, pos}
 use lib.ListN.{length}
 use Rattle.graph.specs.declared.Kind.{Kind}
 use Rattle.graph.specs.declared.Kind.the-variants.{Bipartite, General}
@@ -13,14 +14,22 @@ use Rattle.graph.specs.declared.Shape.{Shape}
 use Rattle.graph.specs.Limits.{mostEdges}
 use Rattle.graph.specs.Refusal.{Outcome, Test, once, passing}
 use Rattle.graph.specs.Graph.{Graph, graphOf, shapeOf, shapeInRange, endsInRange, weightInRange, joined}
-use Rattle.layout.specs.Text.{bytes, words, natural, integer, threeWords, header, textFits}
+use Rattle.layout.specs.declared.Rules.{Rules}
+use Rattle.layout.specs.declared.Rules.the-variants.{New}
+use Rattle.layout.specs.declared.Field.{Field}
+use Rattle.layout.specs.declared.Field.the-variants as Field
+use Rattle.layout.specs.Text.{bytes, words, natural, integer, twoWords, threeWords, header, textFits}
 use Rattle.layout.specs.Lines.{Step, goes, stops, Layout, readText}
 
--- Header: `%%MatrixMarket matrix coordinate integer general`, or `symmetric` for a general graph.
-abbrev pub graphHeader : List ℕ → Step Kind
-graphHeader l =
-    cond (header (bytes "matrix" ∷ bytes "coordinate" ∷ bytes "integer" ∷ bytes "general" ∷ []) l) (goes Bipartite)
-    (cond (header (bytes "matrix" ∷ bytes "coordinate" ∷ bytes "integer" ∷ bytes "symmetric" ∷ []) l) (goes General) (stops Header))
+-- Header: `%%MatrixMarket matrix coordinate integer general`, or `symmetric` for a general graph; `pattern` for `integer` where there are no weights.
+abbrev pub fieldWord : Field → List ℕ
+fieldWord Field.Integer = bytes "integer"
+fieldWord Field.Pattern = bytes "pattern"
+
+abbrev pub graphHeader : Field → List ℕ → Step Kind
+graphHeader field l =
+    cond (header (bytes "matrix" ∷ bytes "coordinate" ∷ fieldWord field ∷ bytes "general" ∷ []) l) (goes Bipartite)
+    (cond (header (bytes "matrix" ∷ bytes "coordinate" ∷ fieldWord field ∷ bytes "symmetric" ∷ []) l) (goes General) (stops Header))
 
 -- The graph of a shape with no edge read yet.
 abbrev pub noEdges : Shape → Graph
@@ -38,7 +47,12 @@ graphSizes kind (some s) = cond (shapeInRange (shapeFrom kind s)) (goes (noEdges
 abbrev pub withEdge : Graph → ℕ → ℕ → ℤ → Graph
 withEdge g r c w = graphOf (shapeOf g) (g .row ++ (r ∷ [])) (g .column ++ (c ∷ [])) (g .weight ++ (w ∷ []))
 
--- Edge line: row, column, weight. Tested in this order: malformed, ends, weight, the ends of an earlier edge.
+-- Edge line: row, column, weight; without weights row and column.
+abbrev pub edgeOn : Rules → Field → List (List ℕ) → Option (ℕ × ℕ × ℤ)
+edgeOn rules Field.Integer ws = threeWords (natural rules) (natural rules) (integer rules) ws
+edgeOn rules Field.Pattern ws = Option·map (λ e. (e .0, e .1, pos 0)) (twoWords (natural rules) (natural rules) ws)
+
+-- Tested in this order: malformed, ends, weight, the ends of an earlier edge.
 abbrev pub graphEdge : Graph → Option (ℕ × ℕ × ℤ) → Step Graph
 graphEdge g none = stops LaterLine
 graphEdge g (some e) =
@@ -48,11 +62,11 @@ graphEdge g (some e) =
     (stops Weight))
     (stops Ends)
 
-abbrev pub graphLayout : Layout Kind Graph Graph
-graphLayout = record {
-  headerLine = graphHeader;
-  sizeLine = λ kind l. graphSizes kind (threeWords natural natural natural (words l));
-  laterLine = λ g l. graphEdge g (threeWords natural natural integer (words l));
+abbrev pub graphLayout : Rules → Field → Layout Kind Graph Graph
+graphLayout rules field = record {
+  headerLine = graphHeader field;
+  sizeLine = λ kind l. graphSizes kind (threeWords (natural rules) (natural rules) (natural rules) (words l));
+  laterLine = λ g l. graphEdge g (edgeOn rules field (words l));
   more = λ g. ltb (length (g .row)) (g .edges);
   result = λ g. g;
 }
@@ -61,6 +75,9 @@ graphLayout = record {
 abbrev pub graphReaderTests : ℕ → ℕ → ℕ → List ℕ → List Test
 graphReaderTests r c w text = once LentLength (eqb r mostEdges && eqb c mostEdges && eqb w mostEdges) ∷ once TextLength (textFits text) ∷ []
 
--- What the graph reader yields of a text.
-unfoldable pub readGraph : ℕ → ℕ → ℕ → List ℕ → Outcome Graph
-readGraph r c w text = passing (graphReaderTests r c w text) (readText graphLayout text)
+-- What is yielded of a text by these rules, with this field; and what the graph reader yields.
+unfoldable pub readGraphBy : Rules → Field → ℕ → ℕ → ℕ → List ℕ → Outcome Graph
+readGraphBy rules field r c w text = passing (graphReaderTests r c w text) (readText (graphLayout rules field) text)
+
+abbrev pub readGraph : ℕ → ℕ → ℕ → List ℕ → Outcome Graph
+readGraph r c w text = readGraphBy New Field.Integer r c w text

@@ -3,4 +3,5 @@ pub mod Lines
 pub mod GraphText
 pub mod NumberText
 pub mod SubgraphText
+pub mod Rewrite
 pub mod Answers

@@ -11,6 +11,8 @@ use Rattle.graph.specs.declared.Fault.the-variants.{TextLength, Header, SizeLin
 use Rattle.graph.specs.Limits.{mostNumbers}
 use Rattle.graph.specs.Refusal.{Outcome, Test, once, passing}
 use Rattle.graph.specs.Graph.{upTo, boundInRange, priceInRange}
+use Rattle.layout.specs.declared.Rules.{Rules}
+use Rattle.layout.specs.declared.Rules.the-variants.{New}
 use Rattle.layout.specs.declared.Numbers.{Numbers}
 use Rattle.layout.specs.declared.Numbers.the-variants.{Bounds, Prices}
 use Rattle.layout.specs.Text.{bytes, words, natural, integer, oneWord, twoWords, header, textFits}
@@ -39,11 +41,11 @@ abbrev pub numberValue : Numbers → List ℤ → Option ℤ → Step (List ℤ)
 numberValue what zs none = stops LaterLine
 numberValue what zs (some z) = cond (inRange what z) (goes (zs ++ (z ∷ []))) (stops (outside what))
 
-abbrev pub numberLayout : Numbers → ℕ → Layout (Unit {0}) (List ℤ) (List ℤ)
-numberLayout what count = record {
+abbrev pub numberLayout : Rules → Numbers → ℕ → Layout (Unit {0}) (List ℤ) (List ℤ)
+numberLayout rules what count = record {
   headerLine = numberHeader;
-  sizeLine = λ h l. numberSizes count (twoWords natural natural (words l));
-  laterLine = λ zs l. numberValue what zs (oneWord integer (words l));
+  sizeLine = λ h l. numberSizes count (twoWords (natural rules) (natural rules) (words l));
+  laterLine = λ zs l. numberValue what zs (oneWord (integer rules) (words l));
   more = λ zs. ltb (length zs) count;
   result = λ zs. zs;
 }
@@ -52,6 +54,9 @@ numberLayout what count = record {
 abbrev pub numberReaderTests : ℕ → ℕ → List ℕ → List Test
 numberReaderTests count n text = once LentLength (eqb n count) ∷ once Sizes (upTo mostNumbers count) ∷ once TextLength (textFits text) ∷ []
 
--- What the number reader yields of a text, where count numbers of a sort are asked for.
-unfoldable pub readNumbers : Numbers → ℕ → ℕ → List ℕ → Outcome (List ℤ)
-readNumbers what count n text = passing (numberReaderTests count n text) (readText (numberLayout what count) text)
+-- What is yielded of a text by these rules, where count numbers of a sort are asked for; and what the number reader yields.
+unfoldable pub readNumbersBy : Rules → Numbers → ℕ → ℕ → List ℕ → Outcome (List ℤ)
+readNumbersBy rules what count n text = passing (numberReaderTests count n text) (readText (numberLayout rules what count) text)
+
+abbrev pub readNumbers : Numbers → ℕ → ℕ → List ℕ → Outcome (List ℤ)
+readNumbers what count n text = readNumbersBy New what count n text

@@ -14,6 +14,8 @@ use Rattle.graph.specs.Refusal.{Outcome, yields, Test, once, lowest, passing}
 use Rattle.graph.specs.Graph.{Graph, rowAt, columnAt, sizesInRange, endsInRange, joins}
 use Rattle.graph.specs.Subgraph.{markAt}
 use Rattle.graph.specs.Tests.{graphLengths, graphTests, markTest}
+use Rattle.layout.specs.declared.Rules.{Rules}
+use Rattle.layout.specs.declared.Rules.the-variants.{New}
 use Rattle.layout.specs.Text.{bytes, words, natural, twoWords, threeWords, header, textFits, decimal, spaced, unlines}
 use Rattle.layout.specs.Lines.{Step, goes, stops, Layout, readText}
 
@@ -67,11 +69,11 @@ subgraphEdge g b none = stops LaterLine
 subgraphEdge g b (some e) =
     cond (endsInRange (g .kind) (g .rows) (g .columns) (e .0) (e .1)) (subgraphMark b (edgeWith g (e .0) (e .1))) (stops Ends)
 
-abbrev pub subgraphLayout : Graph → Layout (Unit {0}) Marked (List ℕ)
-subgraphLayout g = record {
+abbrev pub subgraphLayout : Rules → Graph → Layout (Unit {0}) Marked (List ℕ)
+subgraphLayout rules g = record {
   headerLine = λ l. subgraphHeader g (subgraphKind l);
-  sizeLine = λ h l. subgraphSizes g (threeWords natural natural natural (words l));
-  laterLine = λ b l. subgraphEdge g b (twoWords natural natural (words l));
+  sizeLine = λ h l. subgraphSizes g (threeWords (natural rules) (natural rules) (natural rules) (words l));
+  laterLine = λ b l. subgraphEdge g b (twoWords (natural rules) (natural rules) (words l));
   more = λ b. ltb (b .came) (b .count);
   result = λ b. b .marks;
 }
@@ -80,9 +82,12 @@ subgraphLayout g = record {
 abbrev pub subgraphReaderTests : Graph → ℕ → List ℕ → List Test
 subgraphReaderTests g n text = (once LentLength (graphLengths g && eqb n (g .edges)) ∷ graphTests g) ++ (once TextLength (textFits text) ∷ [])
 
--- What the subgraph reader yields of a text for a graph.
-unfoldable pub readSubgraph : Graph → ℕ → List ℕ → Outcome (List ℕ)
-readSubgraph g n text = passing (subgraphReaderTests g n text) (readText (subgraphLayout g) text)
+-- What is yielded of a text by these rules, for a graph; and what the subgraph reader yields.
+unfoldable pub readSubgraphBy : Rules → Graph → ℕ → List ℕ → Outcome (List ℕ)
+readSubgraphBy rules g n text = passing (subgraphReaderTests g n text) (readText (subgraphLayout rules g) text)
+
+abbrev pub readSubgraph : Graph → ℕ → List ℕ → Outcome (List ℕ)
+readSubgraph g n text = readSubgraphBy New g n text
 
 -- The lines of the chosen edges among the first n, in the graph's order.
 unfoldable pub chosenLines : Graph → List ℕ → ℕ → List (List ℕ)

@@ -4,11 +4,13 @@ use mathlib.Core.Bool.{Bool, true, false, not, cond, _&&_, _||_}
 use mathlib.Core.List.{List, [], _∷_, _++_, map}
 use mathlib.Core.Option.{Option, none, some, Option·map}
 use lib.Dec.{eqb, leb, ltb}
-use lib.IntN.{ℤ, pos, negℤ}
+use lib.IntN.{ℤ, pos, negsuc, negℤ}
 use lib.ListN.{length}
 use Rattle.graph.specs.Limits.{longestText, longestLine}
 use Prim.Native.String.{String, [] as []ˢ, _∷_ as _∷ˢ_}
 use Prim.Native.Char.{code}
+use Rattle.layout.specs.declared.Rules.{Rules}
+use Rattle.layout.specs.declared.Rules.the-variants.{New, Old}
 
 -- The bytes of a text that is written out.
 abbrev pub bytes : String → List ℕ
@@ -53,16 +55,40 @@ unfoldable pub digitsAfter : ℕ → List ℕ → Option ℕ
 digitsAfter n [] = some n
 digitsAfter n (d ∷ ds) = cond (digit d) (digitsAfter (n * 10 + (d - 48)) ds) none
 
--- A size or an index: 1 to 9 digits; leading zeros are taken, and count.
-unfoldable pub natural : List ℕ → Option ℕ
-natural w = cond (leb 1 (length w) && leb (length w) 9) (digitsAfter 0 w) none
+-- 1 to 9 digits, as the number that they make.
+unfoldable pub numeral : List ℕ → Option ℕ
+numeral w = cond (leb 1 (length w) && leb (length w) 9) (digitsAfter 0 w) none
 
--- A number written as a merit is: an optional + (byte 43) or - (byte 45), and 1 to 9 digits.
-unfoldable pub integer : List ℕ → Option ℤ
-integer [] = none
-integer (x ∷ w) =
-    cond (eqb x 43) (Option·map pos (natural w))
-    (cond (eqb x 45) (Option·map (λ n. negℤ (pos n)) (natural w)) (Option·map pos (natural (x ∷ w))))
+-- A leading zero: the word has two bytes or more, and begins with 0 (byte 48).
+abbrev pub padded : List ℕ → Bool
+padded [] = false
+padded (x ∷ []) = false
+padded (x ∷ y ∷ w) = eqb x 48
+
+-- A size or an index: 1 to 9 digits, with no leading zero unless it is the single digit 0. The old rules take leading zeros, which count.
+unfoldable pub natural : Rules → List ℕ → Option ℕ
+natural New w = cond (padded w) none (numeral w)
+natural Old w = numeral w
+
+-- What may stand after a sign, of the number that stands there. No + is taken, and no -0; the old rules take both.
+abbrev pub aboveZero : Option ℕ → Option ℕ
+aboveZero none = none
+aboveZero (some n) = cond (eqb n 0) none (some n)
+
+abbrev pub afterPlus : Rules → Option ℕ → Option ℕ
+afterPlus New n = none
+afterPlus Old n = n
+
+abbrev pub afterMinus : Rules → Option ℕ → Option ℕ
+afterMinus New n = aboveZero n
+afterMinus Old n = n
+
+-- A number written as a merit is: a size, or one after - (byte 45), or, by the old rules, after + (byte 43).
+unfoldable pub integer : Rules → List ℕ → Option ℤ
+integer rules [] = none
+integer rules (x ∷ w) =
+    cond (eqb x 43) (Option·map pos (afterPlus rules (natural rules w)))
+    (cond (eqb x 45) (Option·map (λ n. negℤ (pos n)) (afterMinus rules (natural rules w))) (Option·map pos (natural rules (x ∷ w))))
 
 -- Both, or all three, where none is absent.
 abbrev pub both : {A B : Type 0} → Option A → Option B → Option (A × B)
@@ -154,6 +180,11 @@ digits (suc k) n = cond (ltb n 10) ((48 + n) ∷ []) (digits k (n / 10) ++ ((48 
 
 abbrev pub decimal : ℕ → List ℕ
 decimal n = digits 20 n
+
+-- A number with its sign: - (byte 45) before one below 0.
+abbrev pub signed : ℤ → List ℕ
+signed (pos n) = decimal n
+signed (negsuc n) = 45 ∷ decimal (suc n)
 
 -- Words with one blank between them, and lines with byte 10 after each.
 unfoldable pub spaced : List (List ℕ) → List ℕ

@@ -2,6 +2,18 @@
 use graph::Refusal;
 use graph::Shape;
 
+// How a number may be written: in one way, or as the old rules of document 01 take it, which only an old text that is rewritten is read by.
+pub enum Rules {
+    New,
+    Old,
+}
+
+// The field of a text of coordinates: `integer`, with a weight for each edge, or `pattern`, without.
+pub enum Field {
+    Integer,
+    Pattern,
+}
+
 // What a number text holds: bounds (limits) or prices.
 pub enum Numbers {
     Bounds,

@@ -10,6 +10,7 @@ use Rattle.graph.specs.declared.Refusal.{Refusal}
 use Rattle.graph.specs.declared.Shape.{Shape}
 use Rattle.graph.specs.Refusal.{Outcome, yields, refuses, Told, told, reported, output}
 use Rattle.graph.specs.Graph.{Graph, vertices, verticesIn}
+use Rattle.layout.specs.declared.Rules.the-variants.{New}
 use Rattle.layout.specs.declared.Numbers.the-variants.{Prices}
 use Rattle.layout.specs.declared.NumbersAnswer.{NumbersAnswer}
 use Rattle.layout.specs.declared.NumbersAnswer.the-variants as NumbersAnswer
@@ -80,7 +81,7 @@ module _ (g : Graph) (bound : List ℤ) (x prices : List ℕ) (count n : ℕ) (a
     plan-goes is first holds =
         let y = numbers-yielded says is in
         stage-goes Source.Prices prices-asked (markPrices g bound x) n (pos 0) (y .value) (y .yielded)
-        (numbers-filled Prices count n prices (y .value) (y .yielded) .read ∙ lent) (first ∙ holds)
+        (numbers-filled New Prices count n prices (y .value) (y .yielded) .read ∙ lent) (first ∙ holds)
 
 -- The subgraph is read into n marks.
 module _ (g : Graph) (bound : List ℤ) (plan prices : List ℕ) (n : ℕ) (lent : g .edges ≡ n) where
@@ -97,7 +98,7 @@ module _ (g : Graph) (bound : List ℤ) (plan prices : List ℕ) (n : ℕ) (lent
     problem-goes is first holds =
         let y = subgraph-yielded says is in
         stage-goes Source.Plan marks-asked (λ x. markPlan g bound x prices) n 0 (y .value) (y .yielded)
-        (subgraph-whole g n plan (y .value) (y .yielded) ∙ lent) (first ∙ holds)
+        (subgraph-whole New g n plan (y .value) (y .yielded) ∙ lent) (first ∙ holds)
 
 -- What is written where a problem is read.
 module _ (sheet limits plan prices : List ℕ) {before after : List ℕ} {r : ℕ} where

@@ -17,6 +17,7 @@ use Rattle.integers.proofs.Order.{order, between-true, fits-within}
 use Rattle.graph.specs.declared.Refusal.{Refusal}
 use Rattle.graph.specs.declared.Fault.{Fault}
 use Rattle.graph.specs.Refusal.{Outcome, yields, refuses, told, reported, filled}
+use Rattle.layout.specs.declared.Rules.{Rules}
 use Rattle.layout.specs.declared.Numbers.{Numbers}
 use Rattle.layout.specs.declared.Numbers.the-variants.{Bounds, Prices}
 use Rattle.layout.specs.declared.NumbersAnswer.{NumbersAnswer}
@@ -45,24 +46,24 @@ range-fits Bounds z e = let w = between-true (pos 0) (pos 64) z e in fits-within
 range-fits Prices z e = let w = between-true (pos 0) (pos 2000000) z e in fits-within w32 z (small 2000000 z (w .0) (w .1)) (lit< tt)
 
 -- A refusal reports itself, whatever the output holds.
-pub read-refused : {what : Numbers} {n : ℕ} {s : List ℕ} {out : List ℤ} (x : Refusal) →
-    refuses (x .fault) (x .place) ≡ readText (numberLayout what n) s → NumbersReading what n s (NumbersAnswer.Refused x) out
+pub read-refused : {rules : Rules} {what : Numbers} {n : ℕ} {s : List ℕ} {out : List ℤ} (x : Refusal) →
+    refuses (x .fault) (x .place) ≡ readText (numberLayout rules what n) s → NumbersReading rules what n s (NumbersAnswer.Refused x) out
 read-refused x e = record { says = ap (λ (o : Outcome (List ℤ)). told (reported (λ zs. tt {0}) o)) e; holds = holds-refused (sym e) }
 
 -- The loop has read i numbers of n, into an output as long as at the start.
-pub record NumberTurn (what : Numbers) (n : ℕ) (s : List ℕ) (j : ℕ) (out : List ℤ) (c : Cursor) (i : ℕ) : Type 0 where
+pub record NumberTurn (rules : Rules) (what : Numbers) (n : ℕ) (s : List ℕ) (j : ℕ) (out : List ℤ) (c : Cursor) (i : ℕ) : Type 0 where
   pub read : List ℤ
-  pub walk : Walk (numberLayout what n) s c (reading read)
+  pub walk : Walk (numberLayout rules what n) s c (reading read)
   pub count : length read ≡ i
   pub room : i ≤ n
   pub holds : out ≡ filled n (pos 0) read
   pub same : length out ≡ j
 
-pub turn-starts : {what : Numbers} {n : ℕ} {s : List ℕ} {out : List ℤ} {c : Cursor} → Walk (numberLayout what n) s c (reading []) →
-    out ≡ replicate n (pos 0) → NumberTurn what n s (length out) out c 0
+pub turn-starts : {rules : Rules} {what : Numbers} {n : ℕ} {s : List ℕ} {out : List ℤ} {c : Cursor} → Walk (numberLayout rules what n) s c (reading []) →
+    out ≡ replicate n (pos 0) → NumberTurn rules what n s (length out) out c 0
 turn-starts {n = n} w z = record { read = []; walk = w; count = refl; room = omega arith; holds = z ∙ filled-none n (pos 0); same = refl }
 
-module _ {what : Numbers} {n : ℕ} {s : List ℕ} {j : ℕ} {out : List ℤ} {c : Cursor} {i : ℕ} (T : NumberTurn what n s j out c i) where
+module _ {rules : Rules} {what : Numbers} {n : ℕ} {s : List ℕ} {j : ℕ} {out : List ℤ} {c : Cursor} {i : ℕ} (T : NumberTurn rules what n s j out c i) where
   pub turn-length : length out ≡ n
   turn-length = ap length (T .holds) ∙ filled-length n (pos 0) (T .read) (omega (arith, T .count, T .room))
 
@@ -71,30 +72,30 @@ module _ {what : Numbers} {n : ℕ} {s : List ℕ} {j : ℕ} {out : List ℤ} {c
     right : ltb (length (T .read)) n ≡ ltb i n
     right = ap (λ k. ltb k n) (T .count)
 
-    pub turn-done : r ≡ Later.Done → NumbersReading what n s NumbersAnswer.Read out
+    pub turn-done : r ≡ Later.Done → NumbersReading rules what n s NumbersAnswer.Read out
     turn-done is =
-        let e : yields (T .read) ≡ readText (numberLayout what n) s = later-yields (numberLayout what n) (T .walk) right F is in
+        let e : yields (T .read) ≡ readText (numberLayout rules what n) s = later-yields (numberLayout rules what n) (T .walk) right F is in
         record { says = ap (λ (o : Outcome (List ℤ)). told (reported (λ zs. tt {0}) o)) e; holds = holds-yields (sym e) (T .holds) }
 
-    pub turn-refused : {x : Refusal} → r ≡ Later.Refused x → NumbersReading what n s (NumbersAnswer.Refused x) out
-    turn-refused {x} is = read-refused x (later-refused (numberLayout what n) (T .walk) right F is)
+    pub turn-refused : {x : Refusal} → r ≡ Later.Refused x → NumbersReading rules what n s (NumbersAnswer.Refused x) out
+    turn-refused {x} is = read-refused x (later-refused (numberLayout rules what n) (T .walk) right F is)
 
     module _ {a e : ℕ} {d : Cursor} (is : r ≡ Later.At a e d) where
       pub turn-below : i < n
       turn-below = ltb-true i n (later-found F is .1)
 
-      module _ {l : NumberLine} (does : (zs : List ℤ) → valueSays zs l ≡ numberValue what zs (oneWord integer (words (part s a e)))) where
+      module _ {l : NumberLine} (does : (zs : List ℤ) → valueSays zs l ≡ numberValue what zs (oneWord (integer rules) (words (part s a e)))) where
         pub turn-stops : {f : Fault} → l ≡ NumberLine.Refused f → {x : Refusal} → x ≡ record { fault = f; place = d .line } →
-            NumbersReading what n s (NumbersAnswer.Refused x) out
+            NumbersReading rules what n s (NumbersAnswer.Refused x) out
         turn-stops {f} it {x} same =
-            read-refused x (later-stops (numberLayout what n) (T .walk) right F is f (sym (does (T .read)) ∙ ap (valueSays (T .read)) it) same)
+            read-refused x (later-stops (numberLayout rules what n) (T .walk) right F is f (sym (does (T .read)) ∙ ap (valueSays (T .read)) it) same)
 
-        pub turn-takes : {z : ℤ} → l ≡ NumberLine.Is z → ValueInRange what l → NumberTurn what n s j (set out i (toZ w32 (ofZ w32 z))) d (i + 1)
+        pub turn-takes : {z : ℤ} → l ≡ NumberLine.Is z → ValueInRange what l → NumberTurn rules what n s j (set out i (toZ w32 (ofZ w32 z))) d (i + 1)
         turn-takes {z} it ranged =
             let b = turn-below in
             record {
               read = T .read ++ (z ∷ []);
-              walk = later-goes (numberLayout what n) (T .walk) right F is (T .read ++ (z ∷ [])) (sym (does (T .read)) ∙ ap (valueSays (T .read)) it);
+              walk = later-goes (numberLayout rules what n) (T .walk) right F is (T .read ++ (z ∷ [])) (sym (does (T .read)) ∙ ap (valueSays (T .read)) it);
               count = length-append (T .read) (z ∷ []) ∙ ap (λ k. k + 1) (T .count);
               room = omega (arith, b);
               holds =

@@ -5,6 +5,7 @@ use mathlib.Core.Bool.{true}
 use mathlib.Core.List.{List, [], _∷_, _++_}
 use lib.IntN.{ℤ, pos}
 use Rattle.graph.specs.Refusal.{told, reported}
+use Rattle.layout.specs.declared.Rules.{Rules}
 use Rattle.layout.specs.declared.Numbers.{Numbers}
 use Rattle.layout.specs.declared.NumbersAnswer.{NumbersAnswer}
 use Rattle.layout.specs.Lines.{Step, goes, stops, readText}
@@ -30,7 +31,7 @@ abbrev pub ValueInRange : Numbers → NumberLine → Type 0
 ValueInRange what (NumberLine.Is z) = inRange what z ≡ true
 ValueInRange what (NumberLine.Refused f) = Unit {0}
 
--- The answer r is what reading the text s yields, and the output holds it.
-pub record NumbersReading (what : Numbers) (count : ℕ) (s : List ℕ) (r : NumbersAnswer) (out : List ℤ) : Type 0 where
-  pub says : numbersSay r ≡ told (reported (λ zs. tt) (readText (numberLayout what count) s))
-  pub holds : Holds count (pos 0) (λ zs. zs) (readText (numberLayout what count) s) out
+-- The answer r is what reading the text s by the rules yields, and the output holds it.
+pub record NumbersReading (rules : Rules) (what : Numbers) (count : ℕ) (s : List ℕ) (r : NumbersAnswer) (out : List ℤ) : Type 0 where
+  pub says : numbersSay r ≡ told (reported (λ zs. tt) (readText (numberLayout rules what count) s))
+  pub holds : Holds count (pos 0) (λ zs. zs) (readText (numberLayout rules what count) s) out

@@ -4,6 +4,7 @@ use graph::Fault;
 use graph::MOST_NUMBERS;
 use layout::Numbers;
 use layout::NumbersAnswer;
+use layout::Rules;
 use lines::Later;
 use lines::Opened;
 use text::Cursor;
@@ -16,7 +17,7 @@ ghost use lib.ListN.{length, replicate};
 ghost use Rattle.graph.specs.Refusal.{told, reported, output};
 ghost use Rattle.layout.specs.Text.{words, natural, integer, oneWord, twoWords};
 ghost use Rattle.layout.specs.Lines.{reading};
-ghost use Rattle.layout.specs.NumberText.{inRange, outside, numberSizes, numberValue, numberLayout, readNumbers};
+ghost use Rattle.layout.specs.NumberText.{inRange, outside, numberSizes, numberValue, numberLayout, readNumbersBy, readNumbers};
 ghost use Rattle.layout.specs.Answers.{numbersSay};
 ghost use Rattle.lines.specs.Walk.{Walk};
 ghost use Rattle.number_reader.specs.OnLine.{countSays, valueSays, ValueInRange, NumbersReading};
@@ -27,10 +28,10 @@ enum CountLine {
     Refused(Fault),
 }
 
-fn size_on(line: &[u8], count: u32) -> CountLine
-    ensures { λ r. ⌜ countSays r ≡ numberSizes count (twoWords natural natural (words (now (line .entry)))) ⌝ }
+fn size_on(line: &[u8], count: u32, rules: Rules) -> CountLine
+    ensures { λ r. ⌜ countSays r ≡ numberSizes count (twoWords (natural rules) (natural rules) (words (now (line .entry)))) ⌝ }
 {
-    let Pair::Is(rows, columns) = text::two_naturals(line) else {
+    let Pair::Is(rows, columns) = text::two_naturals(line, rules) else {
         return CountLine::Refused(Fault::SizeLine);
     };
     if rows != count {
@@ -66,11 +67,11 @@ fn outside(what: Numbers) -> Fault
     }
 }
 
-fn number_on(line: &[u8], what: Numbers) -> NumberLine
-    ensures says { λ r. ⌜ ((zs : List ℤ) → valueSays zs r ≡ numberValue what zs (oneWord integer (words (now (line .entry))))) ⌝ }
+fn number_on(line: &[u8], what: Numbers, rules: Rules) -> NumberLine
+    ensures says { λ r. ⌜ ((zs : List ℤ) → valueSays zs r ≡ numberValue what zs (oneWord (integer rules) (words (now (line .entry))))) ⌝ }
     ensures ranged { λ r. ⌜ ValueInRange what r ⌝ }
 {
-    let Integer::Is(z) = text::one_integer(line) else {
+    let Integer::Is(z) = text::one_integer(line, rules) else {
         return NumberLine::Refused(Fault::LaterLine);
     };
     if in_range(what, z) {
@@ -84,13 +85,14 @@ fn number_on(line: &[u8], what: Numbers) -> NumberLine
 fn read_values(
     text: &[u8],
     start: Cursor,
+    rules: Rules,
     what: Numbers,
     count: u32,
     out: &mut [i32],
 ) -> NumbersAnswer
-    requires { ⌜ Walk (numberLayout what count) (now text) start (reading []) ⌝ }
+    requires { ⌜ Walk (numberLayout rules what count) (now text) start (reading []) ⌝ }
     requires { ⌜ now out ≡ replicate count (pos 0) ⌝ }
-    ensures { λ r. ⌜ NumbersReading what count (now (text .entry)) r (now (out .exit)) ⌝ }
+    ensures { λ r. ⌜ NumbersReading rules what count (now (text .entry)) r (now (out .exit)) ⌝ }
 {
     let mut c = start;
     let mut i: usize = 0;
@@ -102,7 +104,7 @@ fn read_values(
             Later::Refused(r) => {
                 return NumbersAnswer::Refused(r);
             }
-            Later::At { start, end, next } => match number_on(&text[start..end], what) {
+            Later::At { start, end, next } => match number_on(&text[start..end], what, rules) {
                 NumberLine::Refused(fault) => {
                     return NumbersAnswer::Refused(lines::refused_at(fault, next));
                 }
@@ -117,9 +119,15 @@ fn read_values(
 }
 
 // The whole text, into `out`, which is cleared.
-fn read_lines(text: &[u8], what: Numbers, count: u32, out: &mut [i32]) -> NumbersAnswer
+fn read_lines(
+    text: &[u8],
+    rules: Rules,
+    what: Numbers,
+    count: u32,
+    out: &mut [i32],
+) -> NumbersAnswer
     requires { ⌜ now out ≡ replicate count (pos 0) ⌝ }
-    ensures { λ r. ⌜ NumbersReading what count (now (text .entry)) r (now (out .exit)) ⌝ }
+    ensures { λ r. ⌜ NumbersReading rules what count (now (text .entry)) r (now (out .exit)) ⌝ }
 {
     match lines::header_line(text) {
         Opened::Refused(r) => NumbersAnswer::Refused(r),
@@ -130,14 +138,39 @@ fn read_lines(text: &[u8], what: Numbers, count: u32, out: &mut [i32]) -> Number
             }
             match lines::size_line(text, next) {
                 Opened::Refused(r) => NumbersAnswer::Refused(r),
-                Opened::At { start, end, next } => match size_on(&text[start..end], count) {
+                Opened::At { start, end, next } => match size_on(&text[start..end], count, rules) {
                     CountLine::Refused(fault) => {
                         NumbersAnswer::Refused(lines::refused_at(fault, next))
                     }
-                    CountLine::Right => read_values(text, next, what, count, out),
+                    CountLine::Right => read_values(text, next, rules, what, count, out),
                 },
             }
         }
+    }
+}
+
+// Reads a text of `count` numbers of a sort into `out`, by these rules. After a refusal `out` is all 0.
+pub fn read_numbers_by(
+    text: &[u8],
+    rules: Rules,
+    what: Numbers,
+    count: u32,
+    out: &mut [i32],
+) -> NumbersAnswer
+    ensures answer { λ r. ⌜ numbersSay r ≡ told (reported (λ zs. tt) (readNumbersBy rules what count (length (now (out .entry))) (now (text .entry)))) ⌝ }
+    ensures numbers { λ _. ⌜ now (out .exit) ≡ output (length (now (out .entry))) (pos 0) (λ zs. zs) (readNumbersBy rules what count (length (now (out .entry))) (now (text .entry))) ⌝ }
+{
+    lent::clear_integers(out);
+    let counted = checks::both(1 <= count, count <= MOST_NUMBERS as u32);
+    match lines::check_text(text, out.len() == count as usize, counted) {
+        Check::Refused(r) => NumbersAnswer::Refused(r),
+        Check::Passed => match read_lines(text, rules, what, count, out) {
+            NumbersAnswer::Read => NumbersAnswer::Read,
+            NumbersAnswer::Refused(r) => {
+                lent::clear_integers(out);
+                NumbersAnswer::Refused(r)
+            }
+        },
     }
 }
 
@@ -146,16 +179,5 @@ pub fn read_numbers(text: &[u8], what: Numbers, count: u32, out: &mut [i32]) -> 
     ensures answer { λ r. ⌜ numbersSay r ≡ told (reported (λ zs. tt) (readNumbers what count (length (now (out .entry))) (now (text .entry)))) ⌝ }
     ensures numbers { λ _. ⌜ now (out .exit) ≡ output (length (now (out .entry))) (pos 0) (λ zs. zs) (readNumbers what count (length (now (out .entry))) (now (text .entry))) ⌝ }
 {
-    lent::clear_integers(out);
-    let counted = checks::both(1 <= count, count <= MOST_NUMBERS as u32);
-    match lines::check_text(text, out.len() == count as usize, counted) {
-        Check::Refused(r) => NumbersAnswer::Refused(r),
-        Check::Passed => match read_lines(text, what, count, out) {
-            NumbersAnswer::Read => NumbersAnswer::Read,
-            NumbersAnswer::Refused(r) => {
-                lent::clear_integers(out);
-                NumbersAnswer::Refused(r)
-            }
-        },
-    }
+    read_numbers_by(text, Rules::New, what, count, out)
 }

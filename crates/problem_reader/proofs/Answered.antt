@@ -17,6 +17,8 @@ use Rattle.graph.specs.declared.Shape.{Shape}
 use Rattle.graph.specs.Refusal.{Outcome, yields, refuses, Told, refusedWith, told, once, passing, reported, filled, output}
 use Rattle.graph.specs.Graph.{Graph, shapeOf, vertices, verticesIn}
 use Rattle.graph.proofs.Ranges.{sizes-hold}
+use Rattle.layout.specs.declared.Rules.the-variants.{New}
+use Rattle.layout.specs.declared.Field.the-variants as Field
 use Rattle.layout.specs.declared.Numbers.the-variants.{Bounds}
 use Rattle.layout.specs.declared.GraphAnswer.{GraphAnswer}
 use Rattle.layout.specs.declared.GraphAnswer.the-variants as GraphAnswer
@@ -82,7 +84,7 @@ module _ (b n : ℕ) (limits : List ℕ) {cleared : List ℤ} (zeros : cleared �
         go : (o : Outcome (List ℤ)) → readNumbers Bounds n n limits ≡ o → part ≡ output n (pos 0) (λ zs. zs) o
             → part ++ drop n cleared ≡ output b (pos 0) (λ zs. zs) o
         go (yields zs) is e =
-            let full = numbers-filled Bounds n n limits zs is .read in
+            let full = numbers-filled New Bounds n n limits zs is .read in
             ap (λ (xs : List ℤ). xs ++ drop n cleared) (e ∙ filled-all n (pos 0) zs full)
             ∙ ap (λ (xs : List ℤ). zs ++ xs) (rest-is ∙ ap (λ k. replicate (b - k) (pos 0)) (sym full))
         go (refuses fault place) is e =
@@ -98,7 +100,7 @@ pub told-few : (r c w : ℕ) (sheet : List ℕ) {a : GraphAnswer} {s : Shape} {n
 told-few r c w sheet says is all =
     let y = graph-yielded says is in
     let g = y .value in
-    let sizes = sizes-hold (g .kind) (g .rows) (g .columns) (g .edges) (graph-whole r c w sheet g (y .yielded) .1) in
+    let sizes = sizes-hold (g .kind) (g .rows) (g .columns) (g .edges) (graph-whole New Field.Integer r c w sheet g (y .yielded) .1) in
     omega (arith, all, ap verticesIn (y .told), sizes .order)
 
 -- What is left where reading has ended, or has a problem.

@@ -22,6 +22,8 @@ use Rattle.graph.specs.Tests.{graphLengths, graphTests}
 use Rattle.graph.proofs.Ranges.{_also_}
 use Rattle.graph.proofs.Passing.{zero-one, once-yields, passes}
 use Rattle.graph.proofs.Told.{told-same}
+use Rattle.layout.specs.declared.Rules.{Rules}
+use Rattle.layout.specs.declared.Field.{Field}
 use Rattle.layout.specs.declared.Numbers.{Numbers}
 use Rattle.layout.specs.declared.GraphAnswer.{GraphAnswer}
 use Rattle.layout.specs.declared.GraphAnswer.the-variants as GraphAnswer
@@ -31,9 +33,9 @@ use Rattle.layout.specs.declared.SubgraphAnswer.{SubgraphAnswer}
 use Rattle.layout.specs.declared.SubgraphAnswer.the-variants as SubgraphAnswer
 use Rattle.layout.specs.Text.{words, natural, integer, oneWord, twoWords, threeWords, textFits, lines, lineFits, blankLine, commentLine}
 use Rattle.layout.specs.Lines.{Step, goes, stops, State, start, sizing, reading, Layout, sized, begun, onLine, atEnd, onStep, readLines, readText}
-use Rattle.layout.specs.GraphText.{noEdges, shapeFrom, graphSizes, graphEdge, withEdge, graphLayout, readGraph}
-use Rattle.layout.specs.NumberText.{inRange, outside, numberSizes, numberValue, numberLayout, readNumbers}
-use Rattle.layout.specs.SubgraphText.{Marked, subgraphSizes, edgeWith, subgraphMark, subgraphEdge, subgraphLayout, readSubgraph}
+use Rattle.layout.specs.GraphText.{noEdges, shapeFrom, graphSizes, graphEdge, withEdge, edgeOn, graphLayout, readGraphBy}
+use Rattle.layout.specs.NumberText.{inRange, outside, numberSizes, numberValue, numberLayout, readNumbersBy}
+use Rattle.layout.specs.SubgraphText.{Marked, subgraphSizes, edgeWith, subgraphMark, subgraphEdge, subgraphLayout, readSubgraphBy}
 use Rattle.layout.specs.Answers.{graphSays, numbersSay, subgraphSays}
 
 module _ {H B R : Type 0} (L : Layout H B R) (P : B → Type 0) where
@@ -148,18 +150,19 @@ edge-partial g (some s) d m p e =
     go true false c h = zero-one (cc)
     go false b c h = zero-one (cc)
 
-graph-kept : Preserved graphLayout Partial
-graph-kept = record {
-  sizes = λ kind l g e. sizes-partial kind (threeWords natural natural natural (words l)) g e;
-  later = λ g l d m p e. edge-partial g (threeWords natural natural integer (words l)) d m p e;
+graph-kept : (rules : Rules) (field : Field) → Preserved (graphLayout rules field) Partial
+graph-kept rules field = record {
+  sizes = λ kind l g e. sizes-partial kind (threeWords (natural rules) (natural rules) (natural rules) (words l)) g e;
+  later = λ g l d m p e. edge-partial g (edgeOn rules field (words l)) d m p e;
 }
 
 -- A graph that is read has as many rows, columns and weights as edges, and sizes in range.
-pub graph-whole : (r c w : ℕ) (text : List ℕ) (g : Graph) → readGraph r c w text ≡ yields g → (graphLengths g ≡ true) × (shapeInRange (shapeOf g) ≡ true)
-unfolding readGraph
-graph-whole r c w text g e =
+pub graph-whole : (rules : Rules) (field : Field) (r c w : ℕ) (text : List ℕ) (g : Graph) → readGraphBy rules field r c w text ≡ yields g →
+    (graphLengths g ≡ true) × (shapeInRange (shapeOf g) ≡ true)
+unfolding readGraphBy
+graph-whole rules field r c w text g e =
     let tests = once LentLength (eqb r mostEdges && eqb c mostEdges && eqb w mostEdges) ∷ once TextLength (textFits text) ∷ [] in
-    let t = text-keeps graphLayout Partial graph-kept text g (passes tests (readText graphLayout text) g e .1) in
+    let t = text-keeps (graphLayout rules field) Partial (graph-kept rules field) text g (passes tests (readText (graphLayout rules field) text) g e .1) in
     let p : Partial g = subst Partial (sym (t .same)) (t .keeps) in
     let m : g .edges ≤ length (g .row) = ltb-false (length (g .row)) (g .edges) (ap (λ (d : Graph). ltb (length (d .row)) (d .edges)) (t .same) ∙ t .full) in
     let long : length (g .row) ≡ g .edges = omega (arith, p .few) in (
@@ -195,10 +198,10 @@ value-few what count zs (some z) xs m e = go (inRange what z) e
         subst (Few count) i f
     go false h = zero-one (cc)
 
-numbers-kept : (what : Numbers) (count : ℕ) → Preserved (numberLayout what count) (Few count)
-numbers-kept what count = record {
-  sizes = λ h l zs e. sizes-few count (twoWords natural natural (words l)) zs e;
-  later = λ zs l xs m p e. value-few what count zs (oneWord integer (words l)) xs m e;
+numbers-kept : (rules : Rules) (what : Numbers) (count : ℕ) → Preserved (numberLayout rules what count) (Few count)
+numbers-kept rules what count = record {
+  sizes = λ h l zs e. sizes-few count (twoWords (natural rules) (natural rules) (words l)) zs e;
+  later = λ zs l xs m p e. value-few what count zs (oneWord (integer rules) (words l)) xs m e;
 }
 
 -- Numbers that are read are as many as are asked for, and fill the output.
@@ -206,13 +209,14 @@ pub record AllRead (count n : ℕ) (zs : List ℤ) : Type 0 where
   pub read : length zs ≡ count
   pub lent : n ≡ count
 
-pub numbers-filled : (what : Numbers) (count n : ℕ) (text : List ℕ) (zs : List ℤ) → readNumbers what count n text ≡ yields zs → AllRead count n zs
-unfolding readNumbers
-numbers-filled what count n text zs e =
+pub numbers-filled : (rules : Rules) (what : Numbers) (count n : ℕ) (text : List ℕ) (zs : List ℤ) → readNumbersBy rules what count n text ≡ yields zs →
+    AllRead count n zs
+unfolding readNumbersBy
+numbers-filled rules what count n text zs e =
     let s = once-yields LentLength (eqb n count) (once Sizes (upTo mostNumbers count) ∷ once TextLength (textFits text) ∷ [])
-    (readText (numberLayout what count) text) zs e in
-    let t = text-keeps (numberLayout what count) (Few count) (numbers-kept what count) text zs
-    (passes (once Sizes (upTo mostNumbers count) ∷ once TextLength (textFits text) ∷ []) (readText (numberLayout what count) text) zs
+    (readText (numberLayout rules what count) text) zs e in
+    let t = text-keeps (numberLayout rules what count) (Few count) (numbers-kept rules what count) text zs
+    (passes (once Sizes (upTo mostNumbers count) ∷ once TextLength (textFits text) ∷ []) (readText (numberLayout rules what count) text) zs
     (s .1) .1) in
     let p : Few count zs = subst (Few count) (sym (t .same)) (t .keeps) in
     let m : count ≤ length zs = ltb-false (length zs) count (ap (λ (xs : List ℤ). ltb (length xs) count) (t .same) ∙ t .full) in
@@ -252,19 +256,19 @@ edge-whole g b (some s) d p e = go (endsInRange (g .kind) (g .rows) (g .columns)
     go true h = mark-whole g b (edgeWith g (s .0) (s .1)) d p h
     go false h = zero-one (cc)
 
-subgraph-kept : (g : Graph) → Preserved (subgraphLayout g) (Whole g)
-subgraph-kept g = record {
-  sizes = λ h l b e. sizes-whole g (threeWords natural natural natural (words l)) b e;
-  later = λ b l d m p e. edge-whole g b (twoWords natural natural (words l)) d p e;
+subgraph-kept : (rules : Rules) (g : Graph) → Preserved (subgraphLayout rules g) (Whole g)
+subgraph-kept rules g = record {
+  sizes = λ h l b e. sizes-whole g (threeWords (natural rules) (natural rules) (natural rules) (words l)) b e;
+  later = λ b l d m p e. edge-whole g b (twoWords (natural rules) (natural rules) (words l)) d p e;
 }
 
 -- A subgraph that is read has a mark for each edge.
-pub subgraph-whole : (g : Graph) (n : ℕ) (text : List ℕ) (x : List ℕ) → readSubgraph g n text ≡ yields x → length x ≡ g .edges
-unfolding readSubgraph
-subgraph-whole g n text x e =
-    let rest = readText (subgraphLayout g) text in
+pub subgraph-whole : (rules : Rules) (g : Graph) (n : ℕ) (text : List ℕ) (x : List ℕ) → readSubgraphBy rules g n text ≡ yields x → length x ≡ g .edges
+unfolding readSubgraphBy
+subgraph-whole rules g n text x e =
+    let rest = readText (subgraphLayout rules g) text in
     let s = passes (once LentLength (graphLengths g && eqb n (g .edges)) ∷ graphTests g) (passing (once TextLength (textFits text) ∷ []) rest) x e .1 in
-    let t = text-keeps (subgraphLayout g) (Whole g) (subgraph-kept g) text x (passes (once TextLength (textFits text) ∷ []) rest x s .1) in
+    let t = text-keeps (subgraphLayout rules g) (Whole g) (subgraph-kept rules g) text x (passes (once TextLength (textFits text) ∷ []) rest x s .1) in
     ap length (t .same) ∙ t .keeps
 
 -- What is yielded, where b is reported of it.

@@ -19,6 +19,8 @@ use Rattle.graph.specs.Tests.{graphLengths}
 use Rattle.graph.specs.Passed.{SizesHold}
 use Rattle.graph.proofs.Ranges.{sizes-hold}
 use Rattle.graph.proofs.Passing.{zero-one, passes}
+use Rattle.layout.specs.declared.Rules.the-variants.{New}
+use Rattle.layout.specs.declared.Field.the-variants as Field
 use Rattle.layout.specs.declared.Numbers.the-variants.{Bounds}
 use Rattle.layout.specs.GraphText.{readGraph}
 use Rattle.layout.specs.NumberText.{readNumbers}
@@ -151,7 +153,7 @@ module _ (sheet limits : List ℕ) where
       parts = read-parts edgesLent edgesLent weightsLent boundsLent sheet limits P (told-problem .is)
 
       whole : (graphLengths (P .graph) ≡ true) × (shapeInRange (shapeOf (P .graph)) ≡ true)
-      whole = graph-whole edgesLent edgesLent weightsLent sheet (P .graph) (parts .graphRead)
+      whole = graph-whole New Field.Integer edgesLent edgesLent weightsLent sheet (P .graph) (parts .graphRead)
 
       told-sizes : SizesHold (s .kind) (s .rows) (s .columns) (s .edges)
       told-sizes =
@@ -178,7 +180,7 @@ module _ (sheet limits : List ℕ) where
           let n = vertices (P .graph) in
           let rest = readNumbers Bounds n n limits in
           let e = passes (once LentLength (eqb boundsLent mostVertices) ∷ []) rest (P .bound) (parts .boundsRead) .1 in
-          let long = numbers-filled Bounds n n limits (P .bound) e .read in
+          let long = numbers-filled New Bounds n n limits (P .bound) e .read in
           ap (λ (t : Shape). take (verticesIn t) bound) (sym (told-problem .shape))
           ∙ first-of boundsLent n (pos 0) (P .bound) (L .bounds ∙ ap (runOutput boundsLent (pos 0) (λ (Q : Problem). Q .bound)) (told-problem .is)) long
 

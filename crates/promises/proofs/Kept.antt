@@ -26,11 +26,13 @@ use Rattle.graph.proofs.Passing.{zero-one, passes, pass, passes-join, goOn, pas
 use Rattle.graph.proofs.Passed.{graph-passed, bounds-passed}
 use Rattle.graph.proofs.Index.{given-index, index-built, index-tested}
 use Rattle.graph.proofs.Ranges.{_also_}
+use Rattle.layout.specs.declared.Rules.the-variants.{New}
+use Rattle.layout.specs.declared.Field.the-variants as Field
 use Rattle.layout.specs.Text.{textFits}
 use Rattle.layout.specs.Lines.{readText}
-use Rattle.layout.specs.GraphText.{graphLayout, graphReaderTests, readGraph}
-use Rattle.layout.specs.NumberText.{numberLayout, numberReaderTests, readNumbers}
-use Rattle.layout.specs.SubgraphText.{subgraphText, subgraphLayout, subgraphReaderTests, readSubgraph, writerTests, writeSubgraph}
+use Rattle.layout.specs.GraphText.{graphLayout, graphReaderTests, readGraphBy, readGraph}
+use Rattle.layout.specs.NumberText.{numberLayout, numberReaderTests, readNumbersBy, readNumbers}
+use Rattle.layout.specs.SubgraphText.{subgraphText, subgraphLayout, subgraphReaderTests, readSubgraphBy, readSubgraph, writerTests, writeSubgraph}
 use Rattle.dual.specs.Prices.{Prices}
 use Rattle.dual.specs.Measure.{measure, measures, measureTests}
 use Rattle.dual.specs.Solve.{solverTests, solve}
@@ -105,28 +107,28 @@ zero-after-refusal = record {
 passes-on : {A : Type 0} (ts : List Test) (o : Outcome A) → Passing ts → passing ts o ≡ o
 passes-on ts o p = pass ts (passes ts (yields tt) tt p .0) o
 
-graph-read : (text : List ℕ) → textFits text ≡ true → readGraph mostEdges mostEdges mostEdges text ≡ readText graphLayout text
-unfolding readGraph
-graph-read text fits = once-passes TextLength (textFits text) [] (readText graphLayout text) fits
+graph-read : (text : List ℕ) → textFits text ≡ true → readGraph mostEdges mostEdges mostEdges text ≡ readText (graphLayout New Field.Integer) text
+unfolding readGraphBy
+graph-read text fits = once-passes TextLength (textFits text) [] (readText (graphLayout New Field.Integer) text) fits
 
 numbers-read : (what : _) (count : ℕ) (text : List ℕ) → upTo mostNumbers count ≡ true → textFits text ≡ true →
-    readNumbers what count count text ≡ readText (numberLayout what count) text
-unfolding readNumbers
+    readNumbers what count count text ≡ readText (numberLayout New what count) text
+unfolding readNumbersBy
 numbers-read what count text sizes fits =
     once-passes LentLength (eqb count count) (once Sizes (upTo mostNumbers count) ∷ once TextLength (textFits text) ∷ [])
-    (readText (numberLayout what count) text) (eq-eqb count count refl)
-    ∙ once-passes Sizes (upTo mostNumbers count) (once TextLength (textFits text) ∷ []) (readText (numberLayout what count) text) sizes
-    ∙ once-passes TextLength (textFits text) [] (readText (numberLayout what count) text) fits
+    (readText (numberLayout New what count) text) (eq-eqb count count refl)
+    ∙ once-passes Sizes (upTo mostNumbers count) (once TextLength (textFits text) ∷ []) (readText (numberLayout New what count) text) sizes
+    ∙ once-passes TextLength (textFits text) [] (readText (numberLayout New what count) text) fits
 
 subgraph-read : (g : Graph) (text : List ℕ) → Passing (once LentLength (graphLengths g) ∷ graphTests g) → textFits text ≡ true →
-    readSubgraph g (g .edges) text ≡ readText (subgraphLayout g) text
-unfolding readSubgraph
+    readSubgraph g (g .edges) text ≡ readText (subgraphLayout New g) text
+unfolding readSubgraphBy
 subgraph-read g text p fits =
     let w = once-yields LentLength (graphLengths g) (graphTests g) (yields tt) tt p in
-    let rest = passing (once TextLength (textFits text) ∷ []) (readText (subgraphLayout g) text) in
+    let rest = passing (once TextLength (textFits text) ∷ []) (readText (subgraphLayout New g) text) in
     once-passes LentLength (graphLengths g && eqb (g .edges) (g .edges)) (graphTests g) rest (w .0 also eq-eqb (g .edges) (g .edges) refl)
     ∙ passes-on (graphTests g) rest (w .1)
-    ∙ once-passes TextLength (textFits text) [] (readText (subgraphLayout g) text) fits
+    ∙ once-passes TextLength (textFits text) [] (readText (subgraphLayout New g) text) fits
 
 pub read-as-defined : ReadAsDefined
 read-as-defined = record { graph = graph-read; numbers = numbers-read; subgraph = subgraph-read }
@@ -179,19 +181,19 @@ unfolding writeSubgraph
 writer-refuses g x n i p = tests-alone (writerTests g x n) (yields (subgraphText g x)) i p (subgraphText g x) refl
 
 graph-reader-refuses : (r c w : ℕ) (text : List ℕ) (i p : ℕ) → Refuses (readGraph r c w text) i p ↔
-    (Refusing (graphReaderTests r c w text) i p ⊎ (Passing (graphReaderTests r c w text) × Refuses (readText graphLayout text) i p))
-unfolding readGraph
-graph-reader-refuses r c w text i p = refused-just (graphReaderTests r c w text) (readText graphLayout text) i p
+    (Refusing (graphReaderTests r c w text) i p ⊎ (Passing (graphReaderTests r c w text) × Refuses (readText (graphLayout New Field.Integer) text) i p))
+unfolding readGraphBy
+graph-reader-refuses r c w text i p = refused-just (graphReaderTests r c w text) (readText (graphLayout New Field.Integer) text) i p
 
 number-reader-refuses : (what : _) (count n : ℕ) (text : List ℕ) (i p : ℕ) → Refuses (readNumbers what count n text) i p ↔
-    (Refusing (numberReaderTests count n text) i p ⊎ (Passing (numberReaderTests count n text) × Refuses (readText (numberLayout what count) text) i p))
-unfolding readNumbers
-number-reader-refuses what count n text i p = refused-just (numberReaderTests count n text) (readText (numberLayout what count) text) i p
+    (Refusing (numberReaderTests count n text) i p ⊎ (Passing (numberReaderTests count n text) × Refuses (readText (numberLayout New what count) text) i p))
+unfolding readNumbersBy
+number-reader-refuses what count n text i p = refused-just (numberReaderTests count n text) (readText (numberLayout New what count) text) i p
 
 subgraph-reader-refuses : (g : Graph) (n : ℕ) (text : List ℕ) (i p : ℕ) → Refuses (readSubgraph g n text) i p ↔
-    (Refusing (subgraphReaderTests g n text) i p ⊎ (Passing (subgraphReaderTests g n text) × Refuses (readText (subgraphLayout g) text) i p))
-unfolding readSubgraph
-subgraph-reader-refuses g n text i p = refused-just (subgraphReaderTests g n text) (readText (subgraphLayout g) text) i p
+    (Refusing (subgraphReaderTests g n text) i p ⊎ (Passing (subgraphReaderTests g n text) × Refuses (readText (subgraphLayout New g) text) i p))
+unfolding readSubgraphBy
+subgraph-reader-refuses g n text i p = refused-just (subgraphReaderTests g n text) (readText (subgraphLayout New g) text) i p
 
 index-builder-refuses : (g : Graph) (n : ℕ) (i p : ℕ) → Refuses (buildIndex g n) i p ↔ Refusing (buildTests g n) i p
 unfolding buildIndex

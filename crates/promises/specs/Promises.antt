@@ -5,7 +5,8 @@ use Prim.Native.Nat.{ℕ, suc, _+_, _*_, _-_, _≤_, _<_}
 use mathlib.Core.Path.{_≡_}
 use mathlib.Core.Logic.{_≢_, _⊎_, _↔_}
 use mathlib.Core.Bool.{true}
-use mathlib.Core.List.{List, [], _∷_}
+use mathlib.Core.List.{List, [], _∷_, map}
+use mathlib.Core.Option.{some}
 use lib.IntN.{ℤ, pos}
 use lib.ListN.{length, getD, replicate, take, drop}
 use lib.Signed.{_≤ℤ_}
@@ -13,17 +14,21 @@ use Rattle.integers.specs.Sum.{is}
 use Rattle.graph.specs.declared.Fault.{Fault}
 use Rattle.graph.specs.declared.Fault.the-variants.{LentLength}
 use Rattle.graph.specs.Limits.{mostEdges, mostNumbers, mostSets, vertexWords, edgeWords}
-use Rattle.graph.specs.Refusal.{numberOf, Outcome, yields, told, refusedWith, Test, once, lowest, passing, output}
+use Rattle.graph.specs.Refusal.{numberOf, Outcome, yields, told, refusedWith, Test, once, passing, output}
 use Rattle.graph.specs.Graph.{Graph, vertices, firstEnd, secondEnd, weightAt, upTo, priceInRange}
 use Rattle.graph.specs.Subgraph.{Feasible, Optimal, weightOf, lacks}
 use Rattle.graph.specs.Tests.{graphLengths, graphTests, boundTest}
 use Rattle.graph.specs.Index.{buildTests, buildIndex, indexTests, testIndex}
 use Rattle.layout.specs.declared.Numbers.{Numbers}
-use Rattle.layout.specs.Text.{textFits}
+use Rattle.layout.specs.declared.Rules.{Rules}
+use Rattle.layout.specs.declared.Rules.the-variants.{New, Old}
+use Rattle.layout.specs.declared.Field.the-variants as Field
+use Rattle.layout.specs.Text.{bytes, newline, blank, lines, words, natural, integer, signed, unlines, textFits}
 use Rattle.layout.specs.Lines.{readText}
-use Rattle.layout.specs.GraphText.{graphLayout, graphReaderTests, readGraph}
-use Rattle.layout.specs.NumberText.{numberLayout, numberReaderTests, readNumbers}
-use Rattle.layout.specs.SubgraphText.{subgraphLayout, subgraphReaderTests, readSubgraph, writerTests, writeSubgraph}
+use Rattle.layout.specs.GraphText.{graphLayout, graphReaderTests, readGraphBy, readGraph}
+use Rattle.layout.specs.NumberText.{numberLayout, numberReaderTests, readNumbersBy, readNumbers}
+use Rattle.layout.specs.SubgraphText.{subgraphLayout, subgraphReaderTests, readSubgraphBy, readSubgraph, writerTests, writeSubgraph}
+use Rattle.layout.specs.Rewrite.{ending, wordAnew, lineAnew, linesAnew, textAnew, rewriteOutput}
 use Rattle.dual.specs.declared.Measures.{Measures}
 use Rattle.dual.specs.Prices.{Prices, vertexPrice, edgePrice, setPrice}
 use Rattle.dual.specs.Sets.{keepsRules}
@@ -63,11 +68,11 @@ Refusing ts number place = Refuses (passing ts (yields (tt {0}))) number place
 -- "Texts are read as the Matrix Market layout defines": where what is lent is as long as it should be, and a text is not too long, it is read line by
 -- line from the top, as its layout says.
 pub record ReadAsDefined : Type 0 where
-  pub graph : (text : List ℕ) → textFits text ≡ true → readGraph mostEdges mostEdges mostEdges text ≡ readText graphLayout text
+  pub graph : (text : List ℕ) → textFits text ≡ true → readGraph mostEdges mostEdges mostEdges text ≡ readText (graphLayout New Field.Integer) text
   pub numbers : (what : Numbers) (count : ℕ) (text : List ℕ) → upTo mostNumbers count ≡ true → textFits text ≡ true →
-      readNumbers what count count text ≡ readText (numberLayout what count) text
+      readNumbers what count count text ≡ readText (numberLayout New what count) text
   pub subgraph : (g : Graph) (text : List ℕ) → Passing (once LentLength (graphLengths g) ∷ graphTests g) → textFits text ≡ true →
-      readSubgraph g (g .edges) text ≡ readText (subgraphLayout g) text
+      readSubgraph g (g .edges) text ≡ readText (subgraphLayout New g) text
 
 -- "A written plan reads back as the same plan": what the writer yields reads back as the marks that were written, so no two subgraphs are written alike.
 pub record ReadsBack : Type 0 where
@@ -89,11 +94,11 @@ pub record RefusedJustWhereListed : Type 0 where
   pub indexBuilder : (g : Graph) (n : ℕ) (i p : ℕ) → Refuses (buildIndex g n) i p ↔ Refusing (buildTests g n) i p
   pub indexTester : (g : Graph) (index : List ℕ) (i p : ℕ) → Refuses (testIndex g index) i p ↔ Refusing (indexTests g index) i p
   pub graphReader : (r c w : ℕ) (text : List ℕ) (i p : ℕ) → Refuses (readGraph r c w text) i p ↔
-      (Refusing (graphReaderTests r c w text) i p ⊎ (Passing (graphReaderTests r c w text) × Refuses (readText graphLayout text) i p))
+      (Refusing (graphReaderTests r c w text) i p ⊎ (Passing (graphReaderTests r c w text) × Refuses (readText (graphLayout New Field.Integer) text) i p))
   pub numberReader : (what : Numbers) (count n : ℕ) (text : List ℕ) (i p : ℕ) → Refuses (readNumbers what count n text) i p ↔
-      (Refusing (numberReaderTests count n text) i p ⊎ (Passing (numberReaderTests count n text) × Refuses (readText (numberLayout what count) text) i p))
+      (Refusing (numberReaderTests count n text) i p ⊎ (Passing (numberReaderTests count n text) × Refuses (readText (numberLayout New what count) text) i p))
   pub subgraphReader : (g : Graph) (n : ℕ) (text : List ℕ) (i p : ℕ) → Refuses (readSubgraph g n text) i p ↔
-      (Refusing (subgraphReaderTests g n text) i p ⊎ (Passing (subgraphReaderTests g n text) × Refuses (readText (subgraphLayout g) text) i p))
+      (Refusing (subgraphReaderTests g n text) i p ⊎ (Passing (subgraphReaderTests g n text) × Refuses (readText (subgraphLayout New g) text) i p))
 
 -- ---- Demand 3
 
@@ -173,3 +178,56 @@ IndexListsEdges = (g : Graph) (index : List ℕ) → testIndex g index ≡ yield
 pub record OneIndex : Type 0 where
   pub passes : (g : Graph) (n : ℕ) (index : List ℕ) → buildIndex g n ≡ yields index → testIndex g index ≡ yields tt
   pub only : (g : Graph) (index : List ℕ) → testIndex g index ≡ yields tt → buildIndex g (length index) ≡ yields index
+
+-- ---- Request U2
+
+-- "One way to write a number": two words that are read as the same number are the same, and it is what the writer writes.
+pub record OneWay : Type 0 where
+  pub size : (u v : List ℕ) (n : ℕ) → natural New u ≡ some n → natural New v ≡ some n → u ≡ v
+  pub number : (u v : List ℕ) (z : ℤ) → integer New u ≡ some z → integer New v ≡ some z → u ≡ v
+  pub written : (w : List ℕ) (z : ℤ) → integer New w ≡ some z → w ≡ signed z
+
+-- "A program first rewrites the numbers .. of old.mtx": what the old rules take as a sheet, as limits or prices of a count, or as a plan of a sheet, the
+-- new ones take after rewriting, with the same result.
+pub record OldTextsRewritten : Type 0 where
+  pub graph : (text : List ℕ) (g : Graph) → readGraphBy Old Field.Integer mostEdges mostEdges mostEdges text ≡ yields g →
+      readGraph mostEdges mostEdges mostEdges (rewriteOutput text) ≡ yields g
+  pub numbers : (what : Numbers) (count : ℕ) (text : List ℕ) (zs : List ℤ) → readNumbersBy Old what count count text ≡ yields zs →
+      readNumbers what count count (rewriteOutput text) ≡ yields zs
+  pub subgraph : (g : Graph) (text x : List ℕ) → readSubgraphBy Old g (g .edges) text ≡ yields x → readSubgraph g (g .edges) (rewriteOutput text) ≡ yields x
+
+-- What the new rules take is rewritten to itself.
+pub record NewTextsKept : Type 0 where
+  pub graph : (text : List ℕ) (g : Graph) → readGraph mostEdges mostEdges mostEdges text ≡ yields g → rewriteOutput text ≡ text
+  pub numbers : (what : Numbers) (count : ℕ) (text : List ℕ) (zs : List ℤ) → readNumbers what count count text ≡ yields zs → rewriteOutput text ≡ text
+  pub subgraph : (g : Graph) (text x : List ℕ) → readSubgraph g (g .edges) text ≡ yields x → rewriteOutput text ≡ text
+
+-- "And copies all other bytes": a text anew has the text's lines, of which those before the size line are the same, and each of the others has its words
+-- anew; the bytes that end lines, and the blanks between words, are the same.
+pub record CopiesTheRest : Type 0 where
+  pub linesOfText : (text : List ℕ) → lines (textAnew text) ≡ linesAnew (lines text)
+  pub lineEnds : (text : List ℕ) → ending newline (textAnew text) ≡ ending newline text
+  pub wordsOfLine : (l : List ℕ) → words (lineAnew l) ≡ map wordAnew (words l)
+  pub blanksOfLine : (l : List ℕ) → ending blank (lineAnew l) ≡ ending blank l
+
+-- The old rules refuse a text as a sheet, as a plan of every sheet, and as limits and as prices of every count.
+pub record RefusedByAll (text : List ℕ) : Type 0 where
+  pub graph : (g : Graph) → readGraphBy Old Field.Integer mostEdges mostEdges mostEdges text ≢ yields g
+  pub subgraph : (g : Graph) (x : List ℕ) → readSubgraphBy Old g (g .edges) text ≢ yields x
+  pub numbers : (what : Numbers) (count : ℕ) (zs : List ℤ) → readNumbersBy Old what count count text ≢ yields zs
+
+-- "Or writes only the line `cannot read`": just where they do.
+abbrev pub CannotRead : Type 0
+CannotRead = (text : List ℕ) → (rewriteOutput text ≡ unlines (bytes "cannot read" ∷ [])) ↔ RefusedByAll text
+
+-- "As a plan of every sheet": the text of a plan without its sheet is taken just where some sheet takes the plan.
+abbrev pub PlanOfSomeSheet : Type 0
+PlanOfSomeSheet =
+    (rules : Rules) (text : List ℕ) →
+    ((g : Graph) × (x : List ℕ) × (readSubgraphBy rules g (g .edges) text ≡ yields x)) ↔
+    ((p : Graph) × (readGraphBy rules Field.Pattern mostEdges mostEdges mostEdges text ≡ yields p))
+
+-- A sheet that is read passes the tests that every call makes of a graph.
+abbrev pub ReadSheetsPass : Type 0
+ReadSheetsPass =
+    (text : List ℕ) (g : Graph) → readGraph mostEdges mostEdges mostEdges text ≡ yields g → Passing (once LentLength (graphLengths g) ∷ graphTests g)

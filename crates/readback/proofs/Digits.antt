@@ -1,4 +1,4 @@
--- Laws of a number's digits: how many there are, and that they read as the number.
+-- Laws of a number's digits: how many there are, which is first, and that they read as the number.
 use mathlib.Core.Path.{_≡_, refl, sym, ap, _∙_}
 use mathlib.Core.Bool.{Bool, true, false}
 use mathlib.Core.List.{List, [], _∷_, _++_}
@@ -7,9 +7,10 @@ use Prim.Native.Nat.{ℕ, zero, suc, _+_, _*_, _-_, _/_, _%_, _^_, _≤_, _<_}
 use native.Mathlib.Nat.{pow-suc}
 use native.Mathlib.Omega.{arith}
 use lib.Dec.{ltb}
-use borrow.Author.Tests.{lt-ltb, le-ltb, ltb-true, ltb-false, le-leb}
+use borrow.Author.Tests.{lt-ltb, le-ltb, ltb-true, ltb-false, le-leb, ne-eqb}
 use lib.ListN.{length, length-append}
-use Rattle.layout.specs.Text.{digit, digitsAfter, natural, digits, decimal}
+use Rattle.layout.specs.declared.Rules.the-variants.{New}
+use Rattle.layout.specs.Text.{digit, digitsAfter, numeral, padded, natural, digits, decimal}
 use Rattle.layout.proofs.Digits.{after-nil, after-yes, after-no}
 use Rattle.graph.proofs.Passing.{zero-one}
 
@@ -21,7 +22,7 @@ pub digits-long : (k n : ℕ) → 10 ≤ n → digits (suc k) n ≡ digits k (n 
 unfolding digits
 digits-long k n h = rw (le-ltb n 10 h)
 
-digits-none : (n : ℕ) → digits 0 n ≡ []
+pub digits-none : (n : ℕ) → digits 0 n ≡ []
 unfolding digits
 digits-none n = refl
 
@@ -29,7 +30,7 @@ pub tenth : (k n : ℕ) → n < 10 ^ suc k → n / 10 < 10 ^ k
 tenth k n h = let e : 10 ^ suc k ≡ 10 ^ k * 10 = pow-suc 10 k in omega arith
 
 -- Room for more digits than n has makes no difference.
-digits-room : (k n : ℕ) → n < 10 ^ suc k → digits (suc (suc k)) n ≡ digits (suc k) n
+pub digits-room : (k n : ℕ) → n < 10 ^ suc k → digits (suc (suc k)) n ≡ digits (suc k) n
 digits-room zero n h = let s : n < 10 = h in digits-short 1 n s ∙ sym (digits-short 0 n s)
 digits-room (suc k) n h = go (ltb n 10) refl (digits-room k (n / 10) (tenth (suc k) n h))
   where
@@ -47,7 +48,7 @@ pub decimal-long : (n : ℕ) → 10 ≤ n → n < 10 ^ 20 → decimal n ≡ deci
 decimal-long n h k = digits-long 19 n h ∙ ap (λ (l : List ℕ). l ++ ((48 + n % 10) ∷ [])) (sym (digits-room 18 (n / 10) (tenth 19 n k)))
 
 -- A number below 10 ^ suc j has at most suc j digits, whatever the room.
-digits-few : (k j n : ℕ) → n < 10 ^ suc j → length (digits k n) ≤ suc j
+pub digits-few : (k j n : ℕ) → n < 10 ^ suc j → length (digits k n) ≤ suc j
 digits-few zero j n h = omega (arith, ap length (digits-none n))
 digits-few (suc k) zero n h = let s : n < 10 = h in omega (arith, ap length (digits-short k n s))
 digits-few (suc k) (suc j) n h = go (ltb n 10) refl (digits-few k j (n / 10) (tenth (suc j) n h))
@@ -68,16 +69,16 @@ decimal-some n = go (ltb n 10) refl
 
 -- ---- reading them
 
-digit-yes : (d : ℕ) → d < 10 → digit (48 + d) ≡ true
+pub digit-yes : (d : ℕ) → d < 10 → digit (48 + d) ≡ true
 digit-yes d h = simp (le-leb 48 (48 + d) (omega arith), le-leb (48 + d) 57 (omega arith))
 
-after-one : (a d : ℕ) → d < 10 → digitsAfter a ((48 + d) ∷ []) ≡ some (a * 10 + d)
+pub after-one : (a d : ℕ) → d < 10 → digitsAfter a ((48 + d) ∷ []) ≡ some (a * 10 + d)
 after-one a d k =
     let v : a * 10 + (48 + d - 48) ≡ a * 10 + d = omega arith in
     after-yes a (48 + d) [] (digit-yes d k) ∙ after-nil (a * 10 + (48 + d - 48)) ∙ ap some v
 
 -- One digit more.
-after-snoc : (ds : List ℕ) (a m d : ℕ) → digitsAfter a ds ≡ some m → d < 10 → digitsAfter a (ds ++ ((48 + d) ∷ [])) ≡ some (m * 10 + d)
+pub after-snoc : (ds : List ℕ) (a m d : ℕ) → digitsAfter a ds ≡ some m → d < 10 → digitsAfter a (ds ++ ((48 + d) ∷ [])) ≡ some (m * 10 + d)
 after-snoc [] a m d h k =
     let e : _≡_ {A = Option ℕ} (some a) (some m) = sym (after-nil a) ∙ h in
     let q : a ≡ m = cc in
@@ -90,7 +91,7 @@ after-snoc (x ∷ ds) a m d h k = go (digit x) refl (λ e. after-snoc ds (a * 10
     go true is ih = after-yes a x (ds ++ ((48 + d) ∷ [])) is ∙ ih (sym (after-yes a x ds is) ∙ h)
     go false is ih = let z : _≡_ {A = Option ℕ} none (some m) = sym (after-no a x ds is) ∙ h in zero-one (cc)
 
-digits-read : (k n : ℕ) → n < 10 ^ k → digitsAfter 0 (digits k n) ≡ some n
+pub digits-read : (k n : ℕ) → n < 10 ^ k → digitsAfter 0 (digits k n) ≡ some n
 digits-read zero n h = let e : n ≡ 0 = zero-of n h in ap (digitsAfter 0) (digits-none n) ∙ after-nil 0 ∙ ap some (sym e)
   where
     zero-of : (m : ℕ) → m < 1 → m ≡ 0
@@ -107,9 +108,50 @@ digits-read (suc k) n h = go (ltb n 10) refl (digits-read k (n / 10) (tenth k n 
         let v : n / 10 * 10 + n % 10 ≡ n = omega arith in
         ap (digitsAfter 0) (digits-long k n (ltb-false n 10 is)) ∙ after-snoc (digits k (n / 10)) 0 (n / 10) (n % 10) ih m ∙ ap some v
 
--- A number that is written reads as itself.
-pub number-back : (n : ℕ) → n < 10 ^ 9 → natural (decimal n) ≡ some n
-unfolding natural
-number-back n h =
+-- ---- the first digit
+
+-- A number above 0 begins with a digit above 0 (byte 48), where there is room for its digits.
+pub record FirstDigit (w : List ℕ) : Type 0 where
+  pub first : ℕ
+  pub others : List ℕ
+  pub is : w ≡ first ∷ others
+  pub above : 48 < first
+
+pub digits-first : (k n : ℕ) → 1 ≤ n → n < 10 ^ k → FirstDigit (digits k n)
+digits-first zero n some-n h = absurd (omega arith)
+digits-first (suc k) n some-n h = go (ltb n 10) refl (λ l. digits-first k (n / 10) l (tenth k n h))
+  where
+    go : (b : Bool) → ltb n 10 ≡ b → (1 ≤ n / 10 → FirstDigit (digits k (n / 10))) → FirstDigit (digits (suc k) n)
+    go true is ih = record { first = 48 + n; others = []; is = digits-short k n (ltb-true n 10 is); above = omega arith }
+    go false is ih =
+        let s : 10 ≤ n = ltb-false n 10 is in
+        let f : FirstDigit (digits k (n / 10)) = ih (omega arith) in
+        record {
+          first = f .first;
+          others = f .others ++ ((48 + n % 10) ∷ []);
+          is = digits-long k n s ∙ ap (λ (l : List ℕ). l ++ ((48 + n % 10) ∷ [])) (f .is);
+          above = f .above;
+        }
+
+not-padded : (d : ℕ) (ds : List ℕ) → 48 < d → padded (d ∷ ds) ≡ false
+not-padded d [] h = refl
+not-padded d (x ∷ ds) h = ne-eqb d 48 (omega arith)
+
+-- No number is written with a leading zero.
+pub decimal-plain : (n : ℕ) → n < 10 ^ 20 → padded (decimal n) ≡ false
+decimal-plain zero h = ap padded (decimal-short 0 (omega arith))
+decimal-plain (suc n) h =
+    let f : FirstDigit (decimal (suc n)) = digits-first 20 (suc n) (omega arith) h in
+    ap padded (f .is) ∙ not-padded (f .first) (f .others) (f .above)
+
+-- ---- a number that is written reads as itself
+
+pub numeral-back : (n : ℕ) → n < 10 ^ 9 → numeral (decimal n) ≡ some n
+unfolding numeral
+numeral-back n h =
     simp (le-leb 1 (length (decimal n)) (decimal-some n), le-leb (length (decimal n)) 9 (decimal-few 8 n h))
     (digits-read 20 n (omega arith))
+
+pub number-back : (n : ℕ) → n < 10 ^ 9 → natural New (decimal n) ≡ some n
+unfolding natural
+number-back n h = rw (decimal-plain n (omega arith)) (numeral-back n h)

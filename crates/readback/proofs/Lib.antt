@@ -4,3 +4,4 @@ pub mod Pieces
 pub mod Fits
 pub mod Reaches
 pub mod ReadBack
+pub mod Trace

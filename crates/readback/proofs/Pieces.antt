@@ -29,14 +29,14 @@ all-free-append p (x ∷ a) b f g = (f .0, all-free-append p a b (f .1) g)
 
 -- ---- pieces
 
-pieces-cut : (p : ℕ → Bool) (a : List ℕ) (x : ℕ) (rest : List ℕ) → Free p a → p x ≡ true → pieces p (a ++ (x ∷ rest)) ≡ a ∷ pieces p rest
+pub pieces-cut : (p : ℕ → Bool) (a : List ℕ) (x : ℕ) (rest : List ℕ) → Free p a → p x ≡ true → pieces p (a ++ (x ∷ rest)) ≡ a ∷ pieces p rest
 unfolding pieces onFirst
 pieces-cut p [] x rest f h = ap (λ (b : Bool). cond b ([] ∷ pieces p rest) (onFirst x (pieces p rest))) h
 pieces-cut p (y ∷ a) x rest f h =
     ap (λ (b : Bool). cond b ([] ∷ pieces p (a ++ (x ∷ rest))) (onFirst y (pieces p (a ++ (x ∷ rest))))) (f .0)
     ∙ ap (onFirst y) (pieces-cut p a x rest (f .1) h)
 
-pieces-whole : (p : ℕ → Bool) (y : ℕ) (a : List ℕ) → Free p (y ∷ a) → pieces p (y ∷ a) ≡ (y ∷ a) ∷ []
+pub pieces-whole : (p : ℕ → Bool) (y : ℕ) (a : List ℕ) → Free p (y ∷ a) → pieces p (y ∷ a) ≡ (y ∷ a) ∷ []
 unfolding pieces onFirst
 pieces-whole p y [] f = ap (λ (b : Bool). cond b ([] ∷ []) ((y ∷ []) ∷ [])) (f .0)
 pieces-whole p y (z ∷ a) f =
@@ -61,7 +61,7 @@ abbrev pub AllWords : List (List ℕ) → Type 0
 AllWords [] = Unit {0}
 AllWords (w ∷ ws) = (1 ≤ length w) × Free blank w × AllWords ws
 
-non-empty : (w : List ℕ) (ws : List (List ℕ)) → 1 ≤ length w → nonEmpty (w ∷ ws) ≡ w ∷ nonEmpty ws
+pub non-empty : (w : List ℕ) (ws : List (List ℕ)) → 1 ≤ length w → nonEmpty (w ∷ ws) ≡ w ∷ nonEmpty ws
 unfolding nonEmpty
 non-empty [] ws h = zero-one (omega arith)
 non-empty (x ∷ w) ws h = refl
@@ -88,7 +88,7 @@ comment-free (x ∷ l) f = f .0
 -- ---- the digits of a number have no byte that is no digit
 
 module _ (p : ℕ → Bool) (none-of : (d : ℕ) → d < 10 → p (48 + d) ≡ false) where
-  digits-free : (k n : ℕ) → Free p (digits k n)
+  pub digits-free : (k n : ℕ) → Free p (digits k n)
   unfolding digits
   digits-free zero n = tt
   digits-free (suc k) n = go (ltb n 10) refl (digits-free k (n / 10))

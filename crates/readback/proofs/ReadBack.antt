@@ -19,11 +19,13 @@ use Rattle.graph.specs.Refusal.{Outcome, yields, once, passing}
 use Rattle.graph.specs.Graph.{Graph, rowAt, columnAt, joins}
 use Rattle.graph.specs.Subgraph.{markAt}
 use Rattle.graph.specs.Tests.{graphLengths, graphTests}
+use Rattle.graph.specs.Passed.{Passed}
+use Rattle.layout.specs.declared.Rules.the-variants.{New}
 use Rattle.layout.specs.Text.{newline, onFirst, pieces, nonEmpty, words, same, sameFolded, headerWords, header, natural, twoWords, threeWords}
 use Rattle.layout.specs.Text.{blankLine, lineFits, noWords, textFits, decimal, spaced, lines}
 use Rattle.layout.specs.Lines.{Step, goes, stops, start, sizing, reading, onLine, readLines, readText}
 use Rattle.layout.specs.SubgraphText.{subgraphKind, sameKind, subgraphHeader, Marked, subgraphSizes, edgeWith, subgraphMark, subgraphEdge}
-use Rattle.layout.specs.SubgraphText.{subgraphLayout, readSubgraph, chosenLines, headerText, subgraphText, writeSubgraph}
+use Rattle.layout.specs.SubgraphText.{subgraphLayout, readSubgraphBy, readSubgraph, chosenLines, headerText, subgraphText, writeSubgraph}
 use Rattle.graph.proofs.Passed.{passed-lengths, passed-tests}
 use Rattle.graph.proofs.Passing.{some-lowest, some-none, pass}
 use Rattle.graph.proofs.Ranges.{_also_}
@@ -36,53 +38,53 @@ use Rattle.readback.proofs.Reaches.{on-start, on-sizing, on-reading, Re
 
 -- ---- lines of numbers
 
-two-words : (r c : ℕ) → words (spaced (decimal r ∷ decimal c ∷ [])) ≡ decimal r ∷ decimal c ∷ []
+pub two-words : (r c : ℕ) → words (spaced (decimal r ∷ decimal c ∷ [])) ≡ decimal r ∷ decimal c ∷ []
 two-words r c = words-spaced (decimal r ∷ decimal c ∷ []) (decimal-some r, decimal-no-blank r, (decimal-some c, decimal-no-blank c, tt))
 
-three-words : (r c n : ℕ) → words (spaced (decimal r ∷ decimal c ∷ decimal n ∷ [])) ≡ decimal r ∷ decimal c ∷ decimal n ∷ []
+pub three-words : (r c n : ℕ) → words (spaced (decimal r ∷ decimal c ∷ decimal n ∷ [])) ≡ decimal r ∷ decimal c ∷ decimal n ∷ []
 three-words r c n =
     words-spaced (decimal r ∷ decimal c ∷ decimal n ∷ [])
     (decimal-some r, decimal-no-blank r, (decimal-some c, decimal-no-blank c, (decimal-some n, decimal-no-blank n, tt)))
 
-two-back : (r c : ℕ) → r < 10 ^ 9 → c < 10 ^ 9 → twoWords natural natural (words (spaced (decimal r ∷ decimal c ∷ []))) ≡ some (r, c)
+pub two-back : (r c : ℕ) → r < 10 ^ 9 → c < 10 ^ 9 → twoWords (natural New) (natural New) (words (spaced (decimal r ∷ decimal c ∷ []))) ≡ some (r, c)
 unfolding twoWords
 two-back r c h k = rw (two-words r c, number-back r h, number-back c k)
 
-three-back : (r c n : ℕ) → r < 10 ^ 9 → c < 10 ^ 9 → n < 10 ^ 9
-    → threeWords natural natural natural (words (spaced (decimal r ∷ decimal c ∷ decimal n ∷ []))) ≡ some (r, c, n)
+pub three-back : (r c n : ℕ) → r < 10 ^ 9 → c < 10 ^ 9 → n < 10 ^ 9
+    → threeWords (natural New) (natural New) (natural New) (words (spaced (decimal r ∷ decimal c ∷ decimal n ∷ []))) ≡ some (r, c, n)
 unfolding threeWords
 three-back r c n h k l = rw (three-words r c n, number-back r h, number-back c k, number-back n l)
 
 -- ---- the header
 
-same-kind : (k : Kind) → sameKind k k ≡ true
+pub same-kind : (k : Kind) → sameKind k k ≡ true
 same-kind Bipartite = refl
 same-kind General = refl
 
-header-back : (k : Kind) → subgraphKind (headerText k) ≡ some k
+pub header-back : (k : Kind) → subgraphKind (headerText k) ≡ some k
 unfolding header headerWords sameFolded same words nonEmpty pieces onFirst
 header-back Bipartite = refl
 header-back General = refl
 
-header-short : (k : Kind) → lineFits (headerText k) ≡ true
+pub header-short : (k : Kind) → lineFits (headerText k) ≡ true
 header-short Bipartite = refl
 header-short General = refl
 
-header-free : (k : Kind) → Free newline (headerText k)
+pub header-free : (k : Kind) → Free newline (headerText k)
 header-free Bipartite = free-yes newline (headerText Bipartite) refl
 header-free General = free-yes newline (headerText General) refl
 
 -- ---- the marks so far
 
 -- The marks of the first n edges, and 0 for the others.
-abbrev marksTo : ℕ → List ℕ → ℕ → List ℕ
+abbrev pub marksTo : ℕ → List ℕ → ℕ → List ℕ
 marksTo m x n = take n x ++ replicate (m - n) 0
 
 module _ (m : ℕ) (x : List ℕ) (long : length x ≡ m) where
-  marks-none : replicate m 0 ≡ marksTo m x 0
+  pub marks-none : replicate m 0 ≡ marksTo m x 0
   marks-none = let e : m ≡ m - 0 = omega arith in ap (λ (k : ℕ). replicate k 0) e
 
-  marks-all : marksTo m x m ≡ x
+  pub marks-all : marksTo m x m ≡ x
   marks-all =
       let e : m - m ≡ 0 = omega arith in
       let f : take m x ≡ x = take-all m x (omega arith) in
@@ -101,25 +103,25 @@ module _ (m : ℕ) (x : List ℕ) (long : length x ≡ m) where
     front = length-take-le n x (omega arith)
 
     -- Not chosen: nothing changes. Chosen: the mark was 0 and is set.
-    marks-kept : markAt x n ≡ 0 → marksTo m x n ≡ marksTo m x (suc n)
+    pub marks-kept : markAt x n ≡ 0 → marksTo m x n ≡ marksTo m x (suc n)
     marks-kept e = marks-here ∙ sym (marks-next 0 e)
 
-    marks-clear : getD (marksTo m x n) n 0 ≡ 0
+    pub marks-clear : getD (marksTo m x n) n 0 ≡ 0
     marks-clear = ap (λ (l : List ℕ). getD l n 0) marks-here ∙ getD-at (take n x) 0 (replicate (m - suc n) 0) 0 n front
 
-    marks-set : markAt x n ≡ 1 → set (marksTo m x n) n 1 ≡ marksTo m x (suc n)
+    pub marks-set : markAt x n ≡ 1 → set (marksTo m x n) n 1 ≡ marksTo m x (suc n)
     marks-set e =
         ap (λ (l : List ℕ). set l n 1) marks-here ∙ set-at (take n x) 0 (replicate (m - suc n) 0) 1 n front ∙ sym (marks-next 1 e)
 
 -- ---- the edge that a line names
 
 -- No two edges have the same ends, so an edge is found by its own.
-edge-found : {g : Graph} {x : List ℕ} → Accepted g x → (n : ℕ) → n < g .edges → edgeWith g (rowAt g n) (columnAt g n) ≡ some n
-edge-found {g} a n l =
+pub edge-found : {g : Graph} → Passed g → (n : ℕ) → n < g .edges → edgeWith g (rowAt g n) (columnAt g n) ≡ some n
+edge-found {g} P n l =
     some-lowest (g .edges) (λ e. not (joins g (rowAt g n) (columnAt g n) e)) n (record {
       among = l;
       breaks = ap not (eq-eqb (rowAt g n) (rowAt g n) refl also eq-eqb (columnAt g n) (columnAt g n) refl);
-      before = λ k m. ap not (some-none n (joins g (rowAt g n) (columnAt g n)) (a .passed .apart n l) k m);
+      before = λ k m. ap not (some-none n (joins g (rowAt g n) (columnAt g n)) (P .apart n l) k m);
     })
 
 -- ---- the lines of the chosen edges
@@ -128,7 +130,7 @@ edge-found {g} a n l =
 abbrev countOf : Graph → List ℕ → ℕ
 countOf g x = sum (g .edges) (markAt x)
 
-abbrev marksSoFar : ℕ → ℕ → List ℕ → Marked
+abbrev pub marksSoFar : ℕ → ℕ → List ℕ → Marked
 marksSoFar count came marks = record { count = count; came = came; marks = marks }
 
 abbrev stateAt : Graph → List ℕ → ℕ → Marked
@@ -161,44 +163,44 @@ module _ {g : Graph} {x : List ℕ} (a : Accepted g x) where
       more-to-come : ltb (sum n (markAt x)) (countOf g x) ≡ true
       more-to-come = lt-ltb (sum n (markAt x)) (countOf g x) (omega (arith, sum-prefix (markAt x) (suc n) (g .edges) l))
 
-      line-read : subgraphEdge g (stateAt g x n) (twoWords natural natural (words lineAt)) ≡ goes (stateAt g x (suc n))
+      line-read : subgraphEdge g (stateAt g x n) (twoWords (natural New) (natural New) (words lineAt)) ≡ goes (stateAt g x (suc n))
       line-read =
           ap (subgraphEdge g (stateAt g x n))
           (two-back (rowAt g n) (columnAt g n) (omega (arith, S .row-small n l)) (omega (arith, S .column-small n l)))
           ∙ ap (λ (t : Bool). cond t (subgraphMark (stateAt g x n) (edgeWith g (rowAt g n) (columnAt g n))) (stops Ends)) (a .passed .sound .ends n l .test)
-          ∙ ap (subgraphMark (stateAt g x n)) (edge-found a n l)
+          ∙ ap (subgraphMark (stateAt g x n)) (edge-found (a .passed) n l)
           ∙ ap (λ (t : Bool). cond t (goes (marksSoFar (countOf g x) (sum n (markAt x) + 1) (set (marksTo (g .edges) x n) n 1))) (stops SameEnds))
           (eq-eqb (getD (marksTo (g .edges) x n) n 0) 0 (marks-clear (g .edges) x (a .marks .long) n l))
           ∙ ap₂ (λ (k : ℕ) (ms : List ℕ). goes (marksSoFar (countOf g x) (sum n (markAt x) + k) ms)) (sym chosen)
           (marks-set (g .edges) x (a .marks .long) n l chosen)
 
-      chosen-step : onLine (subgraphLayout g) (reading (stateAt g x n)) lineAt ≡ goes (reading (stateAt g x (suc n)))
-      chosen-step = on-reading (subgraphLayout g) (stateAt g x n) lineAt (stateAt g x (suc n)) line-fits line-full more-to-come line-read
+      chosen-step : onLine (subgraphLayout New g) (reading (stateAt g x n)) lineAt ≡ goes (reading (stateAt g x (suc n)))
+      chosen-step = on-reading (subgraphLayout New g) (stateAt g x n) lineAt (stateAt g x (suc n)) line-fits line-full more-to-come line-read
 
     unchosen-step : markAt x n ≡ 0 → stateAt g x n ≡ stateAt g x (suc n)
     unchosen-step e =
         let s : sum n (markAt x) ≡ sum n (markAt x) + markAt x n = omega arith in
         ap₂ (λ (k : ℕ) (ms : List ℕ). marksSoFar (countOf g x) k ms) s (marks-kept (g .edges) x (a .marks .long) n l e)
 
-    step-at : Reaches (subgraphLayout g) (reading (stateAt g x n)) (linesAt g x n) (reading (stateAt g x (suc n)))
+    step-at : Reaches (subgraphLayout New g) (reading (stateAt g x n)) (linesAt g x n) (reading (stateAt g x (suc n)))
     step-at = go (eqb (markAt x n) 1) refl
       where
         go : (b : Bool) → eqb (markAt x n) 1 ≡ b
-            → Reaches (subgraphLayout g) (reading (stateAt g x n)) (cond b (spaced (decimal (rowAt g n) ∷ decimal (columnAt g n) ∷ []) ∷ []) [])
+            → Reaches (subgraphLayout New g) (reading (stateAt g x n)) (cond b (spaced (decimal (rowAt g n) ∷ decimal (columnAt g n) ∷ []) ∷ []) [])
             (reading (stateAt g x (suc n)))
         go true is =
-            reaches-one (subgraphLayout g) (reading (stateAt g x n)) (reading (stateAt g x (suc n))) lineAt
+            reaches-one (subgraphLayout New g) (reading (stateAt g x n)) (reading (stateAt g x (suc n))) lineAt
             (chosen-step (eqb-true (markAt x n) 1 is))
         go false is =
             let ne : markAt x n ≢ 1 = eqb-false (markAt x n) 1 is in
             let z : markAt x n ≡ 0 = omega (arith, a .marks .each n l) in
-            rw (unchosen-step z) (reaches-none (subgraphLayout g) (reading (stateAt g x (suc n))))
+            rw (unchosen-step z) (reaches-none (subgraphLayout New g) (reading (stateAt g x (suc n))))
 
-  lines-read : (n : ℕ) → n ≤ g .edges → Reaches (subgraphLayout g) (reading (stateAt g x 0)) (chosenLines g x n) (reading (stateAt g x n))
-  lines-read zero l = rw (chosen-none g x) (reaches-none (subgraphLayout g) (reading (stateAt g x 0)))
+  lines-read : (n : ℕ) → n ≤ g .edges → Reaches (subgraphLayout New g) (reading (stateAt g x 0)) (chosenLines g x n) (reading (stateAt g x n))
+  lines-read zero l = rw (chosen-none g x) (reaches-none (subgraphLayout New g) (reading (stateAt g x 0)))
   lines-read (suc n) l =
       rw (chosen-more g x n)
-      (reaches-append (subgraphLayout g) (reading (stateAt g x 0)) (reading (stateAt g x n)) (reading (stateAt g x (suc n))) (chosenLines g x n)
+      (reaches-append (subgraphLayout New g) (reading (stateAt g x 0)) (reading (stateAt g x n)) (reading (stateAt g x (suc n))) (chosenLines g x n)
       (linesAt g x n) (lines-read n (omega arith)) (step-at n l))
 
   -- ---- the header line and the size line
@@ -206,9 +208,9 @@ module _ {g : Graph} {x : List ℕ} (a : Accepted g x) where
   abbrev sizeLine : List ℕ
   sizeLine = spaced (decimal (g .rows) ∷ decimal (g .columns) ∷ decimal (countOf g x) ∷ [])
 
-  header-step : onLine (subgraphLayout g) start (headerText (g .kind)) ≡ goes (sizing tt)
+  header-step : onLine (subgraphLayout New g) start (headerText (g .kind)) ≡ goes (sizing tt)
   header-step =
-      on-start (subgraphLayout g) (headerText (g .kind)) tt (header-short (g .kind))
+      on-start (subgraphLayout New g) (headerText (g .kind)) tt (header-short (g .kind))
       (ap (subgraphHeader g) (header-back (g .kind)) ∙ ap (λ (t : Bool). cond t (goes tt) (stops Disagreement)) (same-kind (g .kind)))
 
   abbrev sizesRead : Step Marked
@@ -217,7 +219,7 @@ module _ {g : Graph} {x : List ℕ} (a : Accepted g x) where
   abbrev agrees : Bool
   agrees = eqb (g .rows) (g .rows) && eqb (g .columns) (g .columns) && leb (countOf g x) (g .edges)
 
-  size-read : subgraphSizes g (threeWords natural natural natural (words sizeLine)) ≡ goes (stateAt g x 0)
+  size-read : subgraphSizes g (threeWords (natural New) (natural New) (natural New) (words sizeLine)) ≡ goes (stateAt g x 0)
   size-read =
       ap (subgraphSizes g)
       (three-back (g .rows) (g .columns) (countOf g x) (omega (arith, S .rows-small)) (omega (arith, S .columns-small)) (omega (arith, count-few)))
@@ -229,9 +231,9 @@ module _ {g : Graph} {x : List ℕ} (a : Accepted g x) where
       also le-leb (countOf g x) (g .edges) (count-le (a .marks)))
       ∙ ap (λ (ms : List ℕ). goes (marksSoFar (countOf g x) 0 ms)) (marks-none (g .edges) x (a .marks .long))
 
-  size-step : onLine (subgraphLayout g) (sizing tt) sizeLine ≡ goes (reading (stateAt g x 0))
+  size-step : onLine (subgraphLayout New g) (sizing tt) sizeLine ≡ goes (reading (stateAt g x 0))
   size-step =
-      on-sizing (subgraphLayout g) tt sizeLine (stateAt g x 0)
+      on-sizing (subgraphLayout New g) tt sizeLine (stateAt g x 0)
       (le-leb (length sizeLine) 1024
       (omega (arith, size-line-le (g .rows) (g .columns) (countOf g x) (S .rows-small) (S .columns-small) count-few)))
       (ap noWords (three-words (g .rows) (g .columns) (countOf g x)))
@@ -245,14 +247,14 @@ module _ {g : Graph} {x : List ℕ} (a : Accepted g x) where
   abbrev textLines : List (List ℕ)
   textLines = headerText (g .kind) ∷ sizeLine ∷ chosenLines g x (g .edges)
 
-  all-read : readLines (subgraphLayout g) 1 start textLines ≡ yields x
+  all-read : readLines (subgraphLayout New g) 1 start textLines ≡ yields x
   all-read =
-      reaches-end (subgraphLayout g) start textLines (stateAt g x (g .edges)) 1
-      (reaches-append (subgraphLayout g) start (sizing tt) (reading (stateAt g x (g .edges))) (headerText (g .kind) ∷ [])
+      reaches-end (subgraphLayout New g) start textLines (stateAt g x (g .edges)) 1
+      (reaches-append (subgraphLayout New g) start (sizing tt) (reading (stateAt g x (g .edges))) (headerText (g .kind) ∷ [])
       (sizeLine ∷ chosenLines g x (g .edges))
-      (reaches-one (subgraphLayout g) start (sizing tt) (headerText (g .kind)) header-step)
-      (reaches-append (subgraphLayout g) (sizing tt) (reading (stateAt g x 0)) (reading (stateAt g x (g .edges))) (sizeLine ∷ []) (chosenLines g x (g .edges))
-      (reaches-one (subgraphLayout g) (sizing tt) (reading (stateAt g x 0)) sizeLine size-step)
+      (reaches-one (subgraphLayout New g) start (sizing tt) (headerText (g .kind)) header-step)
+      (reaches-append (subgraphLayout New g) (sizing tt) (reading (stateAt g x 0)) (reading (stateAt g x (g .edges))) (sizeLine ∷ []) (chosenLines g x (g .edges))
+      (reaches-one (subgraphLayout New g) (sizing tt) (reading (stateAt g x 0)) sizeLine size-step)
       (lines-read (g .edges) (omega arith))))
       (le-ltb (countOf g x) (countOf g x) (omega arith))
       ∙ ap yields (marks-all (g .edges) x (a .marks .long))
@@ -283,17 +285,17 @@ module _ {g : Graph} {x : List ℕ} (a : Accepted g x) where
 
   -- The text of marks reads as those marks.
   pub text-back : readSubgraph g (length x) (subgraphText g x) ≡ yields x
-  unfolding readSubgraph
+  unfolding readSubgraphBy
   text-back =
       pass (once LentLength (graphLengths g && eqb (length x) (g .edges)) ∷ graphTests g) (
         λ k l. passed-lengths (a .passed) also eq-eqb (length x) (g .edges) (a .marks .long),
         passed-tests (a .passed),
       )
-      (passing (once TextLength (textFits (subgraphText g x)) ∷ []) (readText (subgraphLayout g) (subgraphText g x)))
+      (passing (once TextLength (textFits (subgraphText g x)) ∷ []) (readText (subgraphLayout New g) (subgraphText g x)))
       ∙ pass (once TextLength (textFits (subgraphText g x)) ∷ [])
       (λ k l. le-leb (length (subgraphText g x)) 32768 (omega (arith, text-le g x (a .passed .sound) (a .marks))), tt)
-      (readText (subgraphLayout g) (subgraphText g x))
-      ∙ ap (readLines (subgraphLayout g) 1 start) lines-of-text ∙ all-read
+      (readText (subgraphLayout New g) (subgraphText g x))
+      ∙ ap (readLines (subgraphLayout New g) 1 start) lines-of-text ∙ all-read
 
 -- ---- the two promises
 

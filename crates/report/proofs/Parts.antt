@@ -7,6 +7,7 @@ use native.Mathlib.Nat.{zero-add}
 use native.Mathlib.Omega.{arith}
 use borrow.Author.Tests.{le-leb, lt-leb}
 use borrow.Rule.Slice.PartMut.{putMid}
+use lib.Dec.{leb}
 use lib.IntN.{ℤ, pos}
 use lib.ListN.{length, take, drop, set, replicate, length-append, length-replicate}
 use lib.Seq.{append-snoc}
@@ -18,13 +19,13 @@ use Rattle.integers.specs.Integer.{up, dn}
 use Rattle.integers.proofs.Order.{back}
 use Rattle.graph.specs.declared.Fault.{Fault}
 use Rattle.graph.specs.Refusal.{numberOf}
-use Rattle.layout.specs.Text.{bytes, decimal, spaced, unlines}
+use Rattle.layout.specs.Text.{bytes, decimal, signed, spaced, unlines}
 use Rattle.writer.specs.Written.{Puts, over}
 use Rattle.writer.proofs.Over.{puts-none, puts-long, puts-byte, puts-then, puts-same, puts-part, over-zeros}
 use Rattle.writer.proofs.Put.{twenty-digits}
 use Rattle.report.specs.declared.Source.{Source}
 use Rattle.report.specs.declared.Source.the-variants as Source
-use Rattle.report.specs.Report.{nameOf, refusedLine, signed, lineRoom, composedBytes, composedLength, Composed}
+use Rattle.report.specs.Report.{nameOf, refusedLine, composedBytes, composedLength, Composed}
 use Rattle.report.proofs.Signs.{fromBits, signed-below, signed-above}
 
 -- Two parts, the second written where the first ends.
@@ -113,7 +114,7 @@ module _ (u : List ℕ) (z : ℤ) {d m : List ℕ} {e : ℕ} (f : mag z < 2 ^ hb
 
 -- ---- the whole line
 
-line-is : (l : List ℕ) → l ++ (10 ∷ []) ≡ unlines (l ∷ [])
+pub line-is : (l : List ℕ) → l ++ (10 ∷ []) ≡ unlines (l ∷ [])
 unfolding unlines
 line-is l = refl
 
@@ -141,23 +142,24 @@ refusal-put source fault place n {d} {l₂ = l₂} {l₄ = l₄} {l₆ = l₆} {
 
 -- ---- what is left in a buffer that was cleared before
 
-module _ (text before : List ℕ) {cleared : List ℕ} (zeros : cleared ≡ replicate (length before) 0) where
+-- It has room if it has at least k bytes.
+module _ (k : ℕ) (text before : List ℕ) {cleared : List ℕ} (zeros : cleared ≡ replicate (length before) 0) where
   long : length cleared ≡ length before
   long = ap length zeros ∙ length-replicate (length before) 0
 
   -- It is too short.
-  pub no-room : length cleared < 256 → Composed lineRoom text before cleared 0
+  pub no-room : length cleared < k → Composed (λ n. leb k n) text before cleared 0
   no-room h =
-      let short = lt-leb 256 (length before) (omega (arith, long)) in
+      let short = lt-leb k (length before) (omega (arith, long)) in
       record {
         content = zeros ∙ ap (λ (b : Bool). composedBytes b (length before) text) (sym short);
         size = ap (λ (b : Bool). composedLength b text) (sym short);
       }
 
   -- The text was written at its start.
-  pub line-composed : {after : List ℕ} {r : ℕ} → 256 ≤ length cleared → Puts cleared 0 text after r → Composed lineRoom text before after r
-  line-composed h p =
-      let room = le-leb 256 (length before) (omega (arith, long)) in
+  pub text-composed : {after : List ℕ} {r : ℕ} → k ≤ length cleared → Puts cleared 0 text after r → Composed (λ n. leb k n) text before after r
+  text-composed h p =
+      let room = le-leb k (length before) (omega (arith, long)) in
       record {
         content =
             p .text ∙ ap (λ (d : List ℕ). over d 0 text) zeros ∙ over-zeros (length before) text

@@ -10,10 +10,9 @@ use lib.Signed.{ltZ, mag, nonNeg, natAbs-le}
 use mir.Syntax.{w64}
 use mir.Val.{Fits, SFits, toZ, ofZ}
 use mir.ValLaws.{toZ-ofZ}
-use Rattle.layout.specs.Text.{decimal}
+use Rattle.layout.specs.Text.{decimal, signed}
 use Rattle.integers.specs.Integer.{up, dn}
 use Rattle.integers.proofs.Order.{tests, up-add, up-neg, up-eq, fits-within}
-use Rattle.report.specs.Report.{signed}
 
 -- The number as it is read back from its bits.
 abbrev pub fromBits : ℤ → ℤ

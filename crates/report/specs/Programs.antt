@@ -1,14 +1,14 @@
--- What the two programs write, from the texts of the files they read. An absent file is an empty text.
+-- What the programs write, from the texts of the files they read. An absent file is an empty text.
 use Prim.Native.Nat.{ℕ, _+_}
 use mathlib.Core.Path.{_≡_}
 use mathlib.Core.Bool.{Bool, true}
 use mathlib.Core.List.{List, [], _∷_}
-use lib.Dec.{eqb}
+use lib.Dec.{eqb, leb}
 use lib.IntN.{ℤ}
 use lib.ListN.{length, replicate, take, drop}
 use Rattle.graph.specs.declared.Fault.{Fault}
 use Rattle.graph.specs.declared.Fault.the-variants.{LentLength}
-use Rattle.graph.specs.Limits.{mostVertices, mostEdges, subgraphBytes, workspaceNumbers}
+use Rattle.graph.specs.Limits.{mostVertices, mostEdges, longestText, subgraphBytes, workspaceNumbers}
 use Rattle.graph.specs.Refusal.{Outcome, yields, refuses, once, passing, filled}
 use Rattle.graph.specs.Graph.{Graph, vertices}
 use Rattle.graph.specs.Subgraph.{Optimal}
@@ -118,3 +118,7 @@ pub record SolveComposed (sheet limits before after : List ℕ) (r : ℕ) : Type
   pub chosen : List ℕ
   pub picked : subgraphRoom (length before) ≡ true → Picked sheet limits chosen
   pub composed : Composed subgraphRoom (solveOutput sheet limits chosen) before after r
+
+-- `rewrite` composes in a buffer of at least 32,768 bytes: what it writes is `rewriteOutput` of the text of old.mtx (layout, Rewrite.antt).
+abbrev pub textRoom : ℕ → Bool
+textRoom n = leb longestText n

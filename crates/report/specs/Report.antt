@@ -1,14 +1,13 @@
--- The lines that the two programs write.
-use Prim.Native.Nat.{ℕ, suc}
+-- The lines that `solve` and `mark` write.
+use Prim.Native.Nat.{ℕ}
 use mathlib.Core.Path.{_≡_}
 use mathlib.Core.Bool.{Bool, cond}
 use mathlib.Core.List.{List, [], _∷_}
 use lib.Dec.{leb}
-use lib.IntN.{ℤ, pos, negsuc}
 use lib.ListN.{length, replicate}
 use Rattle.graph.specs.declared.Fault.{Fault}
 use Rattle.graph.specs.Refusal.{numberOf, filled}
-use Rattle.layout.specs.Text.{bytes, decimal, spaced, unlines}
+use Rattle.layout.specs.Text.{bytes, decimal, signed, spaced, unlines}
 use Rattle.dual.specs.declared.Measures.{Measures}
 use Rattle.report.specs.declared.Source.{Source}
 use Rattle.report.specs.declared.Source.the-variants as Source
@@ -25,11 +24,6 @@ nameOf Source.Input = bytes "input"
 unfoldable pub refusedLine : Source → Fault → ℕ → List ℕ
 refusedLine source fault place =
     unlines (spaced (bytes "refused" ∷ decimal (numberOf fault) ∷ bytes "at" ∷ decimal place ∷ bytes "in" ∷ nameOf source ∷ []) ∷ [])
-
--- A number with its sign: - (byte 45) before one below 0.
-abbrev pub signed : ℤ → List ℕ
-signed (pos n) = decimal n
-signed (negsuc n) = 45 ∷ decimal (suc n)
 
 -- The line of `mark`: each number follows its name.
 unfoldable pub measuredLine : Measures → List ℕ

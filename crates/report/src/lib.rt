@@ -1,4 +1,4 @@
-// What the two programs write: the line of a refusal, and the line of a measuring.
+// What `solve` and `mark` write: the line of a refusal, and the line of a measuring.
 use dual::Measures;
 use graph::Refusal;
 use writer::put_bytes;
@@ -8,9 +8,9 @@ ghost use mathlib.Core.List.{_++_};
 ghost use Prim.Native.Nat.{_+_, _≤_};
 ghost use lib.ListN.{length};
 ghost use Rattle.integers.specs.Integer.{up, dn};
-ghost use Rattle.layout.specs.Text.{decimal};
+ghost use Rattle.layout.specs.Text.{decimal, signed};
 ghost use Rattle.writer.specs.Written.{Puts};
-ghost use Rattle.report.specs.Report.{nameOf, refusedLine, signed, measuredLine, lineBytes, lineRoom, Composed};
+ghost use Rattle.report.specs.Report.{nameOf, refusedLine, measuredLine, lineBytes, lineRoom, Composed};
 
 // Room for either line, as specs/Report.antt defines it.
 pub const LINE_BYTES: usize = 256;
@@ -44,7 +44,7 @@ fn put_natural(out: &mut [u8], at: usize, n: u64) -> usize
 }
 
 // Writes z from `at` on, with - before a number below 0. The result is the place after it.
-fn put_signed(out: &mut [u8], at: usize, z: i64) -> usize
+pub fn put_signed(out: &mut [u8], at: usize, z: i64) -> usize
     requires { ⌜ at + 21 ≤ length (now out) ⌝ }
     ensures { λ r. ⌜ Puts (now (out .entry)) at (signed z) (now (out .exit)) r × (r ≤ at + 21) ⌝ }
 {

@@ -10,6 +10,7 @@ use Rattle.graph.specs.declared.Fault.{Fault}
 use Rattle.graph.specs.declared.Refusal.{Refusal}
 use Rattle.graph.specs.Refusal.{Outcome, yields, refuses, told, reported}
 use Rattle.graph.specs.Graph.{Graph}
+use Rattle.layout.specs.declared.Rules.the-variants.{New}
 use Rattle.layout.specs.declared.SubgraphAnswer.{SubgraphAnswer}
 use Rattle.layout.specs.declared.SubgraphAnswer.the-variants as SubgraphAnswer
 use Rattle.layout.specs.Text.{words, natural, twoWords}
@@ -27,13 +28,13 @@ use Rattle.subgraph_reader.specs.declared.Choice.{Choice}
 use Rattle.subgraph_reader.specs.declared.Choice.the-variants as Choice
 
 -- A refusal reports itself, whatever the output holds.
-pub read-refused : (g : Graph) {s out : List ℕ} (x : Refusal) → refuses (x .fault) (x .place) ≡ readText (subgraphLayout g) s →
+pub read-refused : (g : Graph) {s out : List ℕ} (x : Refusal) → refuses (x .fault) (x .place) ≡ readText (subgraphLayout New g) s →
     SubgraphReading g s (SubgraphAnswer.Refused x) out
 read-refused g x e = record { says = ap (λ (o : Outcome (List ℕ)). told (reported (λ y. tt {0}) o)) e; holds = holds-refused (sym e) }
 
 -- Of count chosen edges some came.
 pub record MarkTurn (g : Graph) (s : List ℕ) (count : ℕ) (chosen : List ℕ) (c : Cursor) (came : ℕ) : Type 0 where
-  pub walk : Walk (subgraphLayout g) s c (reading (soFar count came chosen))
+  pub walk : Walk (subgraphLayout New g) s c (reading (soFar count came chosen))
   pub room : came ≤ count
   pub long : length chosen ≡ g .edges
 
@@ -42,30 +43,30 @@ module _ {g : Graph} {s : List ℕ} {count : ℕ} {chosen : List ℕ} {c : Curso
   module _ {r : Later} (F : LaterAs s c (ltb came count) (laterMet s c (ltb came count)) r) where
     pub turn-done : r ≡ Later.Done → SubgraphReading g s SubgraphAnswer.Read chosen
     turn-done is =
-        let e : yields chosen ≡ readText (subgraphLayout g) s = later-yields (subgraphLayout g) (T .walk) refl F is in
+        let e : yields chosen ≡ readText (subgraphLayout New g) s = later-yields (subgraphLayout New g) (T .walk) refl F is in
         record { says = ap (λ (o : Outcome (List ℕ)). told (reported (λ y. tt {0}) o)) e; holds = holds-yields (sym e) (sym (filled-all (g .edges) 0 chosen (T .long))) }
 
     pub turn-refused : {x : Refusal} → r ≡ Later.Refused x → SubgraphReading g s (SubgraphAnswer.Refused x) chosen
-    turn-refused {x} is = read-refused g x (later-refused (subgraphLayout g) (T .walk) refl F is)
+    turn-refused {x} is = read-refused g x (later-refused (subgraphLayout New g) (T .walk) refl F is)
 
     module _ {a e : ℕ} {d : Cursor} (is : r ≡ Later.At a e d) where
       pub turn-below : came < count
       turn-below = ltb-true came count (later-found F is .1)
 
       module _ {l : Choice}
-          (does : (k i : ℕ) → choiceSays (soFar k i chosen) l ≡ subgraphEdge g (soFar k i chosen) (twoWords natural natural (words (part s a e))))
+          (does : (k i : ℕ) → choiceSays (soFar k i chosen) l ≡ subgraphEdge g (soFar k i chosen) (twoWords (natural New) (natural New) (words (part s a e))))
         where
           line-does : (o : Choice) → l ≡ o →
-              subgraphEdge g (soFar count came chosen) (twoWords natural natural (words (part s a e))) ≡ choiceSays (soFar count came chosen) o
+              subgraphEdge g (soFar count came chosen) (twoWords (natural New) (natural New) (words (part s a e))) ≡ choiceSays (soFar count came chosen) o
           line-does o it = sym (does count came) ∙ ap (choiceSays (soFar count came chosen)) it
 
           pub turn-stops : {f : Fault} → l ≡ Choice.Refused f → {x : Refusal} → x ≡ record { fault = f; place = d .line } →
               SubgraphReading g s (SubgraphAnswer.Refused x) chosen
-          turn-stops {f} it {x} same = read-refused g x (later-stops (subgraphLayout g) (T .walk) refl F is f (line-does (Choice.Refused f) it) same)
+          turn-stops {f} it {x} same = read-refused g x (later-stops (subgraphLayout New g) (T .walk) refl F is f (line-does (Choice.Refused f) it) same)
 
           pub turn-takes : {k : ℕ} → l ≡ Choice.Is k → MarkTurn g s count (set chosen k 1) d (came + 1)
           turn-takes {k} it = record {
-            walk = later-goes (subgraphLayout g) (T .walk) refl F is (withMark (soFar count came chosen) k) (line-does (Choice.Is k) it);
+            walk = later-goes (subgraphLayout New g) (T .walk) refl F is (withMark (soFar count came chosen) k) (line-does (Choice.Is k) it);
             room = omega (arith, turn-below);
             long = length-set chosen k 1 ∙ T .long;
           }

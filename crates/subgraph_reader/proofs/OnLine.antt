@@ -17,6 +17,7 @@ use Rattle.graph.proofs.Passing.{lowest-some}
 use Rattle.checks.specs.declared.Lowest.{Lowest}
 use Rattle.checks.specs.declared.Lowest.the-variants as Lowest
 use Rattle.checks.specs.Checks.{lowestSays}
+use Rattle.layout.specs.declared.Rules.the-variants.{New}
 use Rattle.layout.specs.Lines.{Step, goes, stops}
 use Rattle.layout.specs.SubgraphText.{Marked, subgraphKind, sameKind, subgraphHeader, subgraphSizes, edgeWith, subgraphMark, subgraphEdge, subgraphLayout}
 use Rattle.layout.specs.GraphText.{noEdges}
@@ -83,17 +84,17 @@ module _ (s : Shape) (row column : List ℕ) (weight : List ℤ) where
 
 pub size-says :
     (s : Shape) (row column l : List ℕ) {r : ChosenLine} →
-    chosenSays (s .edges) r ≡ subgraphSizes (noEdges s) (threeWords natural natural natural (words l)) → (o : ChosenLine) → r ≡ o
-    → subgraphLayout (graphOf s row column []) .sizeLine tt l ≡ chosenSays (s .edges) o
-size-says s row column l says o is = sym (size-same s row column [] (threeWords natural natural natural (words l))) ∙ sym says ∙ ap (chosenSays (s .edges)) is
+    chosenSays (s .edges) r ≡ subgraphSizes (noEdges s) (threeWords (natural New) (natural New) (natural New) (words l)) → (o : ChosenLine) → r ≡ o
+    → subgraphLayout New (graphOf s row column []) .sizeLine tt l ≡ chosenSays (s .edges) o
+size-says s row column l says o is = sym (size-same s row column [] (threeWords (natural New) (natural New) (natural New) (words l))) ∙ sym says ∙ ap (chosenSays (s .edges)) is
 
-pub layout-same : (s : Shape) (row column : List ℕ) (weight : List ℤ) → subgraphLayout (graphOf s row column []) ≡ subgraphLayout (graphOf s row column weight)
+pub layout-same : (s : Shape) (row column : List ℕ) (weight : List ℤ) → subgraphLayout New (graphOf s row column []) ≡ subgraphLayout New (graphOf s row column weight)
 layout-same s row column weight = λ i. record {
   headerLine = λ l. header-same s row column weight (subgraphKind l) i;
   sizeLine = λ h l.
-      (sym (size-same s row column [] (threeWords natural natural natural (words l)))
-      ∙ size-same s row column weight (threeWords natural natural natural (words l))) i;
-  laterLine = λ b l. edge-same s row column weight b (twoWords natural natural (words l)) i;
+      (sym (size-same s row column [] (threeWords (natural New) (natural New) (natural New) (words l)))
+      ∙ size-same s row column weight (threeWords (natural New) (natural New) (natural New) (words l))) i;
+  laterLine = λ b l. edge-same s row column weight b (twoWords (natural New) (natural New) (words l)) i;
   more = λ b. ltb (b .came) (b .count);
   result = λ b. b .marks;
 }

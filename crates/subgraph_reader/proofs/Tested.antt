@@ -21,9 +21,10 @@ use Rattle.checks.specs.declared.Check.the-variants as Check
 use Rattle.checks.specs.Checks.{checkSays}
 use Rattle.checks.proofs.Refusals.{checked-passed, checked-refused}
 use Rattle.lent.proofs.Lengths.{lent-passed}
+use Rattle.layout.specs.declared.Rules.the-variants.{New}
 use Rattle.layout.specs.Text.{textFits}
 use Rattle.layout.specs.Lines.{readText}
-use Rattle.layout.specs.SubgraphText.{subgraphLayout, readSubgraph, subgraphReaderTests}
+use Rattle.layout.specs.SubgraphText.{subgraphLayout, readSubgraphBy, readSubgraph, subgraphReaderTests}
 use Rattle.layout.specs.declared.SubgraphAnswer.{SubgraphAnswer}
 use Rattle.layout.specs.declared.SubgraphAnswer.the-variants as SubgraphAnswer
 use Rattle.layout.specs.Answers.{subgraphSays}
@@ -52,10 +53,10 @@ module _ (g : Graph) (n : ℕ) (s : List ℕ) where
     text-left is = sym (passing-append numbers fromText noted ∙ checked-passed numbers (passing fromText noted) answers is)
 
   abbrev whole : Outcome (List ℕ)
-  whole = readText (subgraphLayout g) s
+  whole = readText (subgraphLayout New g) s
 
   reads : readSubgraph g n s ≡ passing (subgraphReaderTests g n s) whole
-  unfolding readSubgraph
+  unfolding readSubgraphBy
   reads = sym (passing-append numbers fromText whole)
 
   -- What the call answers and leaves; a refusal leaves the output all 0.

@@ -5,6 +5,7 @@ use mathlib.Core.List.{List}
 use lib.ListN.{set, replicate}
 use Rattle.graph.specs.Refusal.{told, reported}
 use Rattle.graph.specs.Graph.{Graph}
+use Rattle.layout.specs.declared.Rules.the-variants.{New}
 use Rattle.layout.specs.declared.SubgraphAnswer.{SubgraphAnswer}
 use Rattle.layout.specs.Lines.{Step, goes, stops, readText}
 use Rattle.layout.specs.SubgraphText.{Marked, subgraphLayout}
@@ -39,5 +40,5 @@ ChoiceInside m (Choice.Refused f) = Unit {0}
 
 -- The answer r is what reading the text s of a subgraph of g yields, and the output holds it.
 pub record SubgraphReading (g : Graph) (s : List ℕ) (r : SubgraphAnswer) (out : List ℕ) : Type 0 where
-  pub says : subgraphSays r ≡ told (reported (λ x. tt) (readText (subgraphLayout g) s))
-  pub holds : Holds (g .edges) 0 (λ x. x) (readText (subgraphLayout g) s) out
+  pub says : subgraphSays r ≡ told (reported (λ x. tt) (readText (subgraphLayout New g) s))
+  pub holds : Holds (g .edges) 0 (λ x. x) (readText (subgraphLayout New g) s) out

@@ -5,6 +5,7 @@ use checks::both;
 use graph::Fault;
 use graph::Kind;
 use graph::Shape;
+use layout::Rules;
 use layout::SubgraphAnswer;
 use lines::Later;
 use lines::Opened;
@@ -21,6 +22,7 @@ ghost use lib.ListN.{length, getD, replicate};
 ghost use Rattle.graph.specs.Refusal.{yields, told, lowest, passing, reported, output};
 ghost use Rattle.graph.specs.Graph.{graphOf};
 ghost use Rattle.checks.specs.Checks.{lowestSays, checkSays};
+ghost use Rattle.layout.specs.declared.Rules.the-variants.{New};
 ghost use Rattle.layout.specs.Text.{words, natural, twoWords, threeWords};
 ghost use Rattle.layout.specs.Lines.{reading};
 ghost use Rattle.layout.specs.GraphText.{noEdges};
@@ -68,9 +70,9 @@ enum ChosenLine {
 }
 
 fn size_on(line: &[u8], s: Shape) -> ChosenLine
-    ensures { λ r. ⌜ chosenSays (s .edges) r ≡ subgraphSizes (noEdges s) (threeWords natural natural natural (words (now (line .entry)))) ⌝ }
+    ensures { λ r. ⌜ chosenSays (s .edges) r ≡ subgraphSizes (noEdges s) (threeWords (natural New) (natural New) (natural New) (words (now (line .entry)))) ⌝ }
 {
-    let Triple::Is(rows, columns, edges) = text::three_naturals(line) else {
+    let Triple::Is(rows, columns, edges) = text::three_naturals(line, Rules::New) else {
         return ChosenLine::Refused(Fault::SizeLine);
     };
     let kind = s.kind;
@@ -115,10 +117,10 @@ enum Choice {
 
 fn edge_on(line: &[u8], s: Shape, row: &[u32], column: &[u32], chosen: &[u8]) -> Choice
     requires { ⌜ (length (now row) ≡ s .edges) × (length (now column) ≡ s .edges) × (length (now chosen) ≡ s .edges) ⌝ }
-    ensures says { λ r. ⌜ ((count came : ℕ) → choiceSays (soFar count came (now (chosen .entry))) r ≡ subgraphEdge (graphOf s (now (row .entry)) (now (column .entry)) []) (soFar count came (now (chosen .entry))) (twoWords natural natural (words (now (line .entry))))) ⌝ }
+    ensures says { λ r. ⌜ ((count came : ℕ) → choiceSays (soFar count came (now (chosen .entry))) r ≡ subgraphEdge (graphOf s (now (row .entry)) (now (column .entry)) []) (soFar count came (now (chosen .entry))) (twoWords (natural New) (natural New) (words (now (line .entry))))) ⌝ }
     ensures inside { λ r. ⌜ ChoiceInside (s .edges) r ⌝ }
 {
-    let Pair::Is(r, c) = text::two_naturals(line) else {
+    let Pair::Is(r, c) = text::two_naturals(line, Rules::New) else {
         return Choice::Refused(Fault::LaterLine);
     };
     if checks::ends_in_range(s, r, c) {
@@ -145,7 +147,7 @@ fn read_edges(
     count: u32,
     chosen: &mut [u8],
 ) -> SubgraphAnswer
-    requires { ⌜ Walk (subgraphLayout (graphOf s (now row) (now column) [])) (now text) start (reading (soFar count 0 (now chosen))) ⌝ }
+    requires { ⌜ Walk (subgraphLayout New (graphOf s (now row) (now column) [])) (now text) start (reading (soFar count 0 (now chosen))) ⌝ }
     requires { ⌜ (length (now row) ≡ s .edges) × (length (now column) ≡ s .edges) × (length (now chosen) ≡ s .edges) ⌝ }
     ensures { λ r. ⌜ SubgraphReading (graphOf s (now (row .entry)) (now (column .entry)) []) (now (text .entry)) r (now (chosen .exit)) ⌝ }
 {

@@ -1,17 +1,21 @@
--- The number that digits make, for the loop that reads it.
-use mathlib.Core.Path.{_≡_, refl, _∙_}
-use mathlib.Core.Bool.{true, false, and-false}
-use mathlib.Core.List.{List}
+-- The number that digits make, for the loop that reads it, and the leading zero.
+use mathlib.Core.Path.{_≡_, refl, sym, ap, _∙_}
+use mathlib.Core.Bool.{Bool, true, false, cond, and-false}
+use mathlib.Core.List.{List, [], _∷_}
 use mathlib.Core.Option.{none, some}
 use Prim.Native.Nat.{ℕ, suc, _+_, _*_, _-_, _^_, _≤_, _<_}
 use native.Mathlib.Nat.{pow-suc, pow-le-pow-right}
 use native.Mathlib.Numerals.{add-one}
 use native.Mathlib.Omega.{arith}
-use lib.Dec.{lit<}
-use borrow.Author.Tests.{le-leb, lt-leb}
+use lib.Dec.{ltb, lit<}
+use borrow.Author.Tests.{le-leb, lt-leb, lt-ltb, eq-eqb, ne-eqb}
 use lib.ListN.{length, drop, getD, drop-of-length-le}
 use lib.Seq.{drop-cons}
-use Rattle.layout.specs.Text.{digit, digitsAfter, natural}
+use Rattle.graph.proofs.Passing.{zero-one}
+use Rattle.layout.specs.declared.Rules.{Rules}
+use Rattle.layout.specs.declared.Rules.the-variants.{New, Old}
+use Rattle.layout.specs.Text.{digit, digitsAfter, numeral, padded, natural}
+use Rattle.text.specs.Cursor.{zeroRefused}
 use Rattle.layout.proofs.Digits.{after-nil, after-yes, after-no}
 
 pub digit-yes : (d : ℕ) → 48 ≤ d → d ≤ 57 → digit d ≡ true
@@ -23,17 +27,17 @@ digit-low d h = simp (lt-leb 48 d h)
 digit-high : (d : ℕ) → 57 < d → digit d ≡ false
 digit-high d h = simp (lt-leb d 57 h, and-false)
 
-pub natural-in : (w : List ℕ) → 1 ≤ length w → length w ≤ 9 → natural w ≡ digitsAfter 0 w
-unfolding natural
-natural-in w h k = simp (le-leb 1 (length w) h, le-leb (length w) 9 k)
+pub numeral-in : (w : List ℕ) → 1 ≤ length w → length w ≤ 9 → numeral w ≡ digitsAfter 0 w
+unfolding numeral
+numeral-in w h k = simp (le-leb 1 (length w) h, le-leb (length w) 9 k)
 
-pub natural-short : (w : List ℕ) → length w < 1 → natural w ≡ none
-unfolding natural
-natural-short w h = simp (lt-leb 1 (length w) h)
+pub numeral-short : (w : List ℕ) → length w < 1 → numeral w ≡ none
+unfolding numeral
+numeral-short w h = simp (lt-leb 1 (length w) h)
 
-pub natural-long : (w : List ℕ) → 9 < length w → natural w ≡ none
-unfolding natural
-natural-long w h = simp (lt-leb (length w) 9 h, and-false)
+pub numeral-long : (w : List ℕ) → 9 < length w → numeral w ≡ none
+unfolding numeral
+numeral-long w h = simp (lt-leb (length w) 9 h, and-false)
 
 -- The invariant of the loop: it has read i digits, which make n.
 pub record Reading (w : List ℕ) (n i : ℕ) : Type 0 where
@@ -47,8 +51,8 @@ pub reading-starts : (w : List ℕ) → 1 ≤ length w → length w ≤ 9 → Re
 reading-starts w h k = record { some-digits = h; few-digits = k; within = omega arith; small = lit< tt; rest = refl }
 
 module _ (w : List ℕ) (n i : ℕ) (r : Reading w n i) where
-  whole : natural w ≡ digitsAfter n (drop i w)
-  whole = natural-in w (r .some-digits) (r .few-digits) ∙ r .rest
+  whole : numeral w ≡ digitsAfter n (drop i w)
+  whole = numeral-in w (r .some-digits) (r .few-digits) ∙ r .rest
 
   -- One more digit leaves a number below 10 ^ 9.
   pub reading-small : i < length w → n < 10 ^ 8
@@ -57,10 +61,10 @@ module _ (w : List ℕ) (n i : ℕ) (r : Reading w n i) where
       let h : 10 ^ i ≤ 10 ^ 8 = pow-le-pow-right (lit< tt) k in
       omega arith
 
-  pub reading-low : i < length w → getD w i 0 < 48 → natural w ≡ none
+  pub reading-low : i < length w → getD w i 0 < 48 → numeral w ≡ none
   reading-low lt h = whole ∙ rw (drop-cons w i 0 lt) (after-no n (getD w i 0) (drop (suc i) w) (digit-low (getD w i 0) h))
 
-  pub reading-high : i < length w → 57 < getD w i 0 → natural w ≡ none
+  pub reading-high : i < length w → 57 < getD w i 0 → numeral w ≡ none
   reading-high lt h = whole ∙ rw (drop-cons w i 0 lt) (after-no n (getD w i 0) (drop (suc i) w) (digit-high (getD w i 0) h))
 
   pub reading-more : i < length w → 48 ≤ getD w i 0 → getD w i 0 ≤ 57 → Reading w (n * 10 + (getD w i 0 - 48)) (i + 1)
@@ -72,5 +76,33 @@ module _ (w : List ℕ) (n i : ℕ) (r : Reading w n i) where
     rest = r .rest ∙ rw (drop-cons w i 0 lt, add-one) (after-yes n (getD w i 0) (drop (suc i) w) (digit-yes (getD w i 0) h k));
   }
 
-  pub reading-end : length w ≤ i → natural w ≡ some n
+  pub reading-end : length w ≤ i → numeral w ≡ some n
   reading-end le = whole ∙ rw (drop-of-length-le w le) (after-nil n)
+
+-- A leading zero: the first byte is 0, and another follows.
+pub padded-none : (w : List ℕ) → length w < 1 → padded w ≡ false
+padded-none [] h = refl
+padded-none (x ∷ w) h = zero-one (omega arith)
+
+pub padded-other : (w : List ℕ) → (getD w 0 0 ≡ 48 → ⊥) → padded w ≡ false
+padded-other [] ne = refl
+padded-other (x ∷ []) ne = refl
+padded-other (x ∷ y ∷ w) ne = ne-eqb x 48 ne
+
+pub padded-zero : (w : List ℕ) → getD w 0 0 ≡ 48 → ltb 1 (length w) ≡ padded w
+padded-zero [] e = refl
+padded-zero (x ∷ []) e = refl
+padded-zero (x ∷ y ∷ w) e = lt-ltb 1 (length (x ∷ y ∷ w)) (omega arith) ∙ sym (eq-eqb x 48 e)
+
+-- A leading zero, by each of the rules, and a size or an index by whether it has one that they do not take.
+module _ {rules : Rules} (w : List ℕ) where
+  pub refused-new : rules ≡ New → {r : Bool} → r ≡ padded w → r ≡ zeroRefused rules w
+  refused-new is e = e ∙ ap (λ (k : Rules). zeroRefused k w) (sym is)
+
+  pub refused-old : rules ≡ Old → false ≡ zeroRefused rules w
+  refused-old is = ap (λ (k : Rules). zeroRefused k w) (sym is)
+
+pub natural-by : (rules : Rules) (w : List ℕ) (b : Bool) → b ≡ zeroRefused rules w → cond b none (numeral w) ≡ natural rules w
+unfolding natural
+natural-by New w b e = ap (λ (x : Bool). cond x none (numeral w)) e
+natural-by Old w b e = ap (λ (x : Bool). cond x none (numeral w)) e

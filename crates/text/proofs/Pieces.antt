@@ -14,7 +14,7 @@ use Rattle.text.proofs.Scans.{run-le}
 use Rattle.text.specs.Cursor.{run, inLine, inWord, past, wordAt, firstWord, pastWord}
 
 -- The first piece goes up to the first byte that ends one, and the others are those of what follows that byte.
-pieces-step : (p : ℕ → Bool) (x : ℕ) (xs : List ℕ) →
+pub pieces-step : (p : ℕ → Bool) (x : ℕ) (xs : List ℕ) →
     pieces p (x ∷ xs) ≡ take (run (λ y. not (p y)) (x ∷ xs)) (x ∷ xs) ∷ pieces p (drop (suc (run (λ y. not (p y)) (x ∷ xs))) (x ∷ xs))
 unfolding pieces onFirst run
 pieces-step p x [] = go (p x)

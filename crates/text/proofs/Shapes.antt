@@ -7,19 +7,22 @@ use Prim.Native.Nat.{ℕ, _≤_}
 use native.Mathlib.Omega.{arith}
 use lib.ListN.{length, drop, length-drop}
 use Rattle.graph.proofs.Passing.{zero-one}
-use Rattle.layout.specs.Text.{blank, words, noWords, natural, integer, both, all3, oneWord, twoWords, threeWords}
+use Rattle.layout.specs.declared.Rules.{Rules}
+use Rattle.layout.specs.declared.Rules.the-variants.{New, Old}
+use Rattle.layout.specs.Text.{blank, words, noWords, numeral, natural, integer, both, all3, oneWord, twoWords, threeWords}
 use Rattle.text.specs.Cursor.{inWord, past, pastWord, firstWord, next}
 use Rattle.text.specs.declared.Cursor.{Cursor}
 use Rattle.text.proofs.Scans.{run-le}
 use Rattle.text.proofs.Pieces.{Front, nothing, word, front}
 
-pub natural-nil : natural [] ≡ none
-unfolding natural
-natural-nil = refl
+pub natural-nil : (rules : Rules) → natural rules [] ≡ none
+unfolding natural numeral
+natural-nil New = refl
+natural-nil Old = refl
 
-pub integer-nil : integer [] ≡ none
+pub integer-nil : (rules : Rules) → integer rules [] ≡ none
 unfolding integer
-integer-nil = refl
+integer-nil rules = refl
 
 past-le : (p : ℕ → Bool) (l : List ℕ) (at : ℕ) → at ≤ length l → past p l at ≤ length l
 past-le p l at le = omega (arith, run-le p (drop at l), length-drop at l)

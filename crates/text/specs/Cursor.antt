@@ -9,7 +9,9 @@ use lib.IntN.{ℤ}
 use lib.ListN.{length, take, drop}
 use Rattle.graph.specs.declared.Kind.{Kind}
 use Rattle.graph.specs.declared.Kind.the-variants.{Bipartite, General}
-use Rattle.layout.specs.Text.{bytes, newline, blank, words, sameFolded, header}
+use Rattle.layout.specs.declared.Rules.{Rules}
+use Rattle.layout.specs.declared.Rules.the-variants.{New, Old}
+use Rattle.layout.specs.Text.{bytes, newline, blank, words, padded, sameFolded, header}
 use Rattle.text.specs.declared.Cursor.{Cursor}
 use Rattle.text.specs.declared.Line.{Line}
 use Rattle.text.specs.declared.Line.the-variants.{Part, Done}
@@ -100,6 +102,11 @@ tripleSays Triple.Bad = none
 abbrev pub edgeLineSays : EdgeLine → Option (ℕ × ℕ × ℤ)
 edgeLineSays (EdgeLine.Is row column weight) = some (row, column, weight)
 edgeLineSays EdgeLine.Bad = none
+
+-- A leading zero that the rules do not take.
+abbrev pub zeroRefused : Rules → List ℕ → Bool
+zeroRefused New w = padded w
+zeroRefused Old w = false
 
 -- A number that was read has at most nine digits.
 abbrev pub NineDigits : Option ℕ → Type 0

@@ -5,9 +5,10 @@ ghost use mathlib.Core.Option.{Option·map};
 ghost use Prim.Native.Nat.{_+_, _≤_};
 ghost use lib.IntN.{pos, negℤ};
 ghost use lib.ListN.{length, drop};
-ghost use Rattle.layout.specs.Text.{blank, lower, words, natural, integer, oneWord, twoWords, threeWords, noWords, blankLine, commentLine, same, begins, header};
-ghost use Rattle.text.specs.Cursor.{inLine, inWord, past, nextLine, wordAt, next, naturalSays, integerSays, nextNaturalSays, nextIntegerSays, pairSays, tripleSays, edgeLineSays, NineDigits, within, follow, KeyTaken, kindSays, kindTold};
+ghost use Rattle.layout.specs.Text.{blank, lower, words, numeral, padded, natural, aboveZero, afterPlus, afterMinus, integer, oneWord, twoWords, threeWords, noWords, blankLine, commentLine, same, begins, header};
+ghost use Rattle.text.specs.Cursor.{inLine, inWord, past, nextLine, wordAt, next, naturalSays, integerSays, nextNaturalSays, nextIntegerSays, pairSays, tripleSays, edgeLineSays, zeroRefused, NineDigits, within, follow, KeyTaken, kindSays, kindTold};
 use graph::Kind;
+use layout::Rules;
 
 // A place in a text or in a line: its byte, and how many lines of the text were passed.
 pub struct Cursor {
@@ -107,7 +108,7 @@ impl Cursor {
 }
 
 // The word that begins at a place, as a part of the line; empty where none begins.
-fn word(line: &[u8], start: usize) -> &[u8]
+pub fn word(line: &[u8], start: usize) -> &[u8]
     requires { ⌜ start ≤ length (now line) ⌝ }
     ensures part { λ r. ⌜ now r ≡ wordAt (now (line .entry)) start ⌝ }
     ensures bounded { λ r. ⌜ start + length (now r) ≤ length (now (line .entry)) ⌝ }
@@ -152,9 +153,9 @@ pub enum Integer {
     Bad,
 }
 
-// A size or an index: 1 to 9 digits.
-fn read_natural(w: &[u8]) -> Natural
-    ensures { λ r. ⌜ naturalSays r ≡ natural (now (w .entry)) ⌝ }
+// 1 to 9 digits, as the number that they make.
+fn read_numeral(w: &[u8]) -> Natural
+    ensures { λ r. ⌜ naturalSays r ≡ numeral (now (w .entry)) ⌝ }
 {
     if w.len() < 1 {
         return Natural::Bad;
@@ -178,6 +179,75 @@ fn read_natural(w: &[u8]) -> Natural
     Natural::Is(n)
 }
 
+// A leading zero: the word has two bytes or more, and begins with 0.
+fn is_padded(w: &[u8]) -> bool
+    ensures { λ r. ⌜ r ≡ padded (now (w .entry)) ⌝ }
+{
+    if w.len() < 1 {
+        return false;
+    }
+    if w[0] != 48 {
+        return false;
+    }
+    w.len() > 1
+}
+
+// A leading zero that the rules do not take.
+fn is_zero_refused(w: &[u8], rules: Rules) -> bool
+    ensures { λ r. ⌜ r ≡ zeroRefused rules (now (w .entry)) ⌝ }
+{
+    match rules {
+        Rules::New => is_padded(w),
+        Rules::Old => false,
+    }
+}
+
+// A size or an index: 1 to 9 digits, and a leading zero only by the old rules.
+fn read_natural(w: &[u8], rules: Rules) -> Natural
+    ensures { λ r. ⌜ naturalSays r ≡ natural rules (now (w .entry)) ⌝ }
+{
+    if is_zero_refused(w, rules) {
+        return Natural::Bad;
+    }
+    read_numeral(w)
+}
+
+// A number after +, which only the old rules take.
+fn after_plus(n: Natural, rules: Rules) -> Natural
+    ensures { λ r. ⌜ naturalSays r ≡ afterPlus rules (naturalSays n) ⌝ }
+{
+    match rules {
+        Rules::New => Natural::Bad,
+        Rules::Old => n,
+    }
+}
+
+// A number above 0.
+fn above_zero(n: Natural) -> Natural
+    ensures { λ r. ⌜ naturalSays r ≡ aboveZero (naturalSays n) ⌝ }
+{
+    match n {
+        Natural::Is(value) => {
+            if value > 0 {
+                Natural::Is(value)
+            } else {
+                Natural::Bad
+            }
+        }
+        Natural::Bad => Natural::Bad,
+    }
+}
+
+// A number after -. Only the old rules take -0.
+fn after_minus(n: Natural, rules: Rules) -> Natural
+    ensures { λ r. ⌜ naturalSays r ≡ afterMinus rules (naturalSays n) ⌝ }
+{
+    match rules {
+        Rules::New => above_zero(n),
+        Rules::Old => n,
+    }
+}
+
 // A number that was read, with the sign + or none, and with the sign -.
 fn plus(n: Natural) -> Integer
     requires { ⌜ NineDigits (naturalSays n) ⌝ }
@@ -199,21 +269,21 @@ fn minus(n: Natural) -> Integer
     }
 }
 
-// A number written as a merit is: an optional sign and 1 to 9 digits.
-fn read_integer(w: &[u8]) -> Integer
-    ensures { λ r. ⌜ integerSays r ≡ integer (now (w .entry)) ⌝ }
+// A number written as a merit is: a size, or one after a sign.
+pub fn read_integer(w: &[u8], rules: Rules) -> Integer
+    ensures { λ r. ⌜ integerSays r ≡ integer rules (now (w .entry)) ⌝ }
 {
     if w.len() < 1 {
         return Integer::Bad;
     }
     let x = w[0];
     if x == 43 {
-        return plus(read_natural(&w[1..]));
+        return plus(after_plus(read_natural(&w[1..], rules), rules));
     }
     if x == 45 {
-        return minus(read_natural(&w[1..]));
+        return minus(after_minus(read_natural(&w[1..], rules), rules));
     }
-    plus(read_natural(w))
+    plus(read_natural(w, rules))
 }
 
 // The next number of a line, and the cursor after it. Where no word is left there is none.
@@ -229,14 +299,14 @@ pub enum NextInteger {
 
 impl Cursor {
     // The next word of the line as a size or an index.
-    fn next_natural(self, line: &[u8]) -> NextNatural
+    fn next_natural(self, line: &[u8], rules: Rules) -> NextNatural
         requires { ⌜ self .at ≤ length (now line) ⌝ }
-        ensures { λ r. ⌜ nextNaturalSays r ≡ next natural (now (line .entry)) self ⌝ }
+        ensures { λ r. ⌜ nextNaturalSays r ≡ next (natural rules) (now (line .entry)) self ⌝ }
     {
         let passed = self.line;
         let start = skip_blanks(line, self.at);
         let w = word(line, start);
-        let Natural::Is(value) = read_natural(w) else {
+        let Natural::Is(value) = read_natural(w, rules) else {
             return NextNatural::Bad;
         };
         NextNatural::Is {
@@ -249,14 +319,14 @@ impl Cursor {
     }
 
     // The next word of the line as an integer.
-    fn next_integer(self, line: &[u8]) -> NextInteger
+    fn next_integer(self, line: &[u8], rules: Rules) -> NextInteger
         requires { ⌜ self .at ≤ length (now line) ⌝ }
-        ensures { λ r. ⌜ nextIntegerSays r ≡ next integer (now (line .entry)) self ⌝ }
+        ensures { λ r. ⌜ nextIntegerSays r ≡ next (integer rules) (now (line .entry)) self ⌝ }
     {
         let passed = self.line;
         let start = skip_blanks(line, self.at);
         let w = word(line, start);
-        let Integer::Is(value) = read_integer(w) else {
+        let Integer::Is(value) = read_integer(w, rules) else {
             return NextInteger::Bad;
         };
         NextInteger::Is {
@@ -269,11 +339,11 @@ impl Cursor {
     }
 
     // The one number that is left in a line.
-    fn last_natural(self, line: &[u8]) -> Natural
+    fn last_natural(self, line: &[u8], rules: Rules) -> Natural
         requires { ⌜ self .at ≤ length (now line) ⌝ }
-        ensures { λ r. ⌜ naturalSays r ≡ oneWord natural (words (drop (self .at) (now (line .entry)))) ⌝ }
+        ensures { λ r. ⌜ naturalSays r ≡ oneWord (natural rules) (words (drop (self .at) (now (line .entry)))) ⌝ }
     {
-        let NextNatural::Is { value, next } = self.next_natural(line) else {
+        let NextNatural::Is { value, next } = self.next_natural(line, rules) else {
             return Natural::Bad;
         };
         let at = next.at;
@@ -284,11 +354,11 @@ impl Cursor {
         }
     }
 
-    fn last_integer(self, line: &[u8]) -> Integer
+    fn last_integer(self, line: &[u8], rules: Rules) -> Integer
         requires { ⌜ self .at ≤ length (now line) ⌝ }
-        ensures { λ r. ⌜ integerSays r ≡ oneWord integer (words (drop (self .at) (now (line .entry)))) ⌝ }
+        ensures { λ r. ⌜ integerSays r ≡ oneWord (integer rules) (words (drop (self .at) (now (line .entry)))) ⌝ }
     {
-        let NextInteger::Is { value, next } = self.next_integer(line) else {
+        let NextInteger::Is { value, next } = self.next_integer(line, rules) else {
             return Integer::Bad;
         };
         let at = next.at;
@@ -301,11 +371,11 @@ impl Cursor {
 }
 
 // A line of one integer.
-pub fn one_integer(line: &[u8]) -> Integer
-    ensures { λ r. ⌜ integerSays r ≡ oneWord integer (words (now (line .entry))) ⌝ }
+pub fn one_integer(line: &[u8], rules: Rules) -> Integer
+    ensures { λ r. ⌜ integerSays r ≡ oneWord (integer rules) (words (now (line .entry))) ⌝ }
 {
     let c = Cursor { at: 0, line: 0 };
-    c.last_integer(line)
+    c.last_integer(line, rules)
 }
 
 pub enum Pair {
@@ -314,14 +384,14 @@ pub enum Pair {
 }
 
 // A line of two sizes or indices.
-pub fn two_naturals(line: &[u8]) -> Pair
-    ensures { λ r. ⌜ pairSays r ≡ twoWords natural natural (words (now (line .entry))) ⌝ }
+pub fn two_naturals(line: &[u8], rules: Rules) -> Pair
+    ensures { λ r. ⌜ pairSays r ≡ twoWords (natural rules) (natural rules) (words (now (line .entry))) ⌝ }
 {
     let c = Cursor { at: 0, line: 0 };
-    let NextNatural::Is { value: a, next } = c.next_natural(line) else {
+    let NextNatural::Is { value: a, next } = c.next_natural(line, rules) else {
         return Pair::Bad;
     };
-    let Natural::Is(b) = next.last_natural(line) else {
+    let Natural::Is(b) = next.last_natural(line, rules) else {
         return Pair::Bad;
     };
     Pair::Is(a, b)
@@ -333,25 +403,25 @@ pub enum Triple {
 }
 
 // A line of three sizes.
-pub fn three_naturals(line: &[u8]) -> Triple
-    ensures { λ r. ⌜ tripleSays r ≡ threeWords natural natural natural (words (now (line .entry))) ⌝ }
+pub fn three_naturals(line: &[u8], rules: Rules) -> Triple
+    ensures { λ r. ⌜ tripleSays r ≡ threeWords (natural rules) (natural rules) (natural rules) (words (now (line .entry))) ⌝ }
 {
     let start = Cursor { at: 0, line: 0 };
     let NextNatural::Is {
         value: a,
         next: second,
-    } = start.next_natural(line)
+    } = start.next_natural(line, rules)
     else {
         return Triple::Bad;
     };
     let NextNatural::Is {
         value: b,
         next: third,
-    } = second.next_natural(line)
+    } = second.next_natural(line, rules)
     else {
         return Triple::Bad;
     };
-    let Natural::Is(c) = third.last_natural(line) else {
+    let Natural::Is(c) = third.last_natural(line, rules) else {
         return Triple::Bad;
     };
     Triple::Is(a, b, c)
@@ -363,25 +433,25 @@ pub enum EdgeLine {
 }
 
 // A line of an edge: row, column, weight.
-pub fn edge_line(line: &[u8]) -> EdgeLine
-    ensures { λ r. ⌜ edgeLineSays r ≡ threeWords natural natural integer (words (now (line .entry))) ⌝ }
+pub fn edge_line(line: &[u8], rules: Rules) -> EdgeLine
+    ensures { λ r. ⌜ edgeLineSays r ≡ threeWords (natural rules) (natural rules) (integer rules) (words (now (line .entry))) ⌝ }
 {
     let start = Cursor { at: 0, line: 0 };
     let NextNatural::Is {
         value: row,
         next: second,
-    } = start.next_natural(line)
+    } = start.next_natural(line, rules)
     else {
         return EdgeLine::Bad;
     };
     let NextNatural::Is {
         value: column,
         next: third,
-    } = second.next_natural(line)
+    } = second.next_natural(line, rules)
     else {
         return EdgeLine::Bad;
     };
-    let Integer::Is(weight) = third.last_integer(line) else {
+    let Integer::Is(weight) = third.last_integer(line, rules) else {
         return EdgeLine::Bad;
     };
     EdgeLine::Is {

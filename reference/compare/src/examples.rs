@@ -1,6 +1,6 @@
 //! The examples of the repository.
 
-use crate::files::{Folder, NAMES};
+use crate::files::{Entry, Folder, NAMES, OLD};
 use std::fs;
 use std::path::{Path, PathBuf};
 
@@ -10,6 +10,11 @@ const EXAMPLES: &str = "examples";
 fn path(name: &str) -> PathBuf {
     let root = Path::new(env!("CARGO_MANIFEST_DIR")).join("../..");
     root.join(name)
+}
+
+/// A file, by its path in the repository.
+pub fn file(name: &str) -> Entry {
+    Entry::read(&path(name))
 }
 
 /// An example, by its path in the repository.
@@ -32,16 +37,29 @@ fn names_in(name: &str) -> Vec<String> {
     names
 }
 
-/// The examples at a path of the repository and below it: the folders with a sheet.
-fn names_from(name: &str) -> Vec<String> {
-    if path(name).join(NAMES[0]).is_file() {
-        return vec![name.into()];
+/// The folders with a file of this name at a path of the repository and below it.
+fn names_from(name: &str, file: &str) -> Vec<String> {
+    let mut names = Vec::new();
+    if path(name).join(file).is_file() {
+        names.push(name.into());
     }
-    let inside = names_in(name);
-    inside.iter().flat_map(|name| names_from(name)).collect()
+    for inner in names_in(name) {
+        names.extend(names_from(&inner, file));
+    }
+    names
 }
 
-/// The paths of all examples in the repository.
+/// The paths of the examples for `solve` and `mark`: the folders with a sheet.
 pub fn names() -> Vec<String> {
-    names_from(EXAMPLES)
+    names_from(EXAMPLES, NAMES[0])
+}
+
+/// The texts of all examples, by their paths: those of `rewrite`, and those of `solve` and `mark`.
+pub fn texts() -> Vec<(String, Entry)> {
+    let files = [OLD].into_iter().chain(NAMES);
+    let paths = files.flat_map(|file| {
+        let names = names_from(EXAMPLES, file).into_iter();
+        names.map(move |name| format!("{name}/{file}"))
+    });
+    paths.map(|name| (name.clone(), file(&name))).collect()
 }

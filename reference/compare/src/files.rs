@@ -1,12 +1,15 @@
-//! The files of the two programs in a folder.
+//! The files of the programs in a folder.
 
 use reference::Files;
 use std::fs;
 use std::io;
 use std::path::Path;
 
-/// The names of the files, in the order in which they are read.
+/// The names of the files of `solve` and `mark`, in the order in which they are read.
 pub const NAMES: [&str; 4] = ["sheet.mtx", "limits.mtx", "plan.mtx", "prices.mtx"];
+
+/// The name of the file of `rewrite`.
+pub const OLD: &str = "old.mtx";
 
 /// What stands under a file's name.
 #[derive(Clone, Debug, PartialEq, Eq)]
@@ -20,7 +23,8 @@ pub enum Entry {
 }
 
 impl Entry {
-    fn read(path: &Path) -> Entry {
+    /// What stands at a path.
+    pub fn read(path: &Path) -> Entry {
         if path.is_dir() {
             return Entry::Folder;
         }
@@ -44,7 +48,7 @@ impl Entry {
     }
 
     /// The beginning, to be shown.
-    fn shown(&self) -> String {
+    pub fn shown(&self) -> String {
         match self {
             Entry::Text(text) => {
                 let beginning = &text[..text.len().min(300)];
@@ -57,7 +61,22 @@ impl Entry {
     }
 }
 
-/// A folder with the four files.
+/// What stands under each name of a folder.
+pub type Named<'a> = Vec<(&'static str, &'a Entry)>;
+
+/// Makes a folder with these files; whatever stood there is removed.
+pub fn write_folder(path: &Path, files: &Named) -> io::Result<()> {
+    if path.exists() {
+        fs::remove_dir_all(path)?;
+    }
+    fs::create_dir_all(path)?;
+    for (name, entry) in files {
+        entry.write(&path.join(name))?;
+    }
+    Ok(())
+}
+
+/// A folder with the four files of `solve` and `mark`.
 #[derive(Clone, Debug, PartialEq, Eq)]
 pub struct Folder {
     /// What the folder is called where it is shown.
@@ -73,16 +92,9 @@ impl Folder {
         Folder { name, entries }
     }
 
-    /// Makes the folder; whatever stood there is removed.
-    pub fn write(&self, path: &Path) -> io::Result<()> {
-        if path.exists() {
-            fs::remove_dir_all(path)?;
-        }
-        fs::create_dir_all(path)?;
-        for (entry, file) in self.entries.iter().zip(NAMES) {
-            entry.write(&path.join(file))?;
-        }
-        Ok(())
+    /// What stands under each name.
+    pub fn named(&self) -> Named<'_> {
+        NAMES.into_iter().zip(&self.entries).collect()
     }
 
     /// The texts as the separately written program takes them.

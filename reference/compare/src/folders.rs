@@ -4,7 +4,7 @@ use crate::examples::{self, example};
 use crate::files::{Entry, Folder, NAMES};
 use crate::graphs::{bounds, cover, feasible, prices, Lent};
 use crate::solves::Solved;
-use crate::texts::{damaged, graph_lines, joined, number_lines, padded, subgraph_lines};
+use crate::texts::{damaged, joined, padded, Draft};
 use reference::{Graph, Kind, Random};
 
 /// What a folder holds, before it is written as texts. The subgraph may exceed a bound, and the prices may not cover.
@@ -33,7 +33,7 @@ fn full(random: &mut Random, kind: Kind) -> Lent {
 }
 
 /// A small graph of a kind, with few enough edges to try every subgraph.
-fn small(random: &mut Random, kind: Kind) -> Lent {
+pub fn small(random: &mut Random, kind: Kind) -> Lent {
     let rows = 2 + random.below(4) as u32;
     let columns = match kind {
         Kind::Bipartite => 2 + random.below(4) as u32,
@@ -106,20 +106,20 @@ impl Content {
         }
     }
 
-    /// The lines of a file, by its place in the order of reading.
-    fn lines(&self, random: &mut Random, file: usize) -> Vec<Vec<u8>> {
+    /// The text of a file, by its place in the order of reading.
+    fn draft(&self, file: usize) -> Draft {
         match file {
-            0 => graph_lines(random, &self.graph.lend()),
-            1 => number_lines(random, &self.bound),
-            2 => subgraph_lines(random, self.named.kind, &self.named.lend(), &self.chosen),
-            _ => number_lines(random, &self.price),
+            0 => Draft::of_graph(&self.graph.lend()),
+            1 => Draft::of_numbers(&self.bound),
+            2 => Draft::of_subgraph(self.named.kind, &self.named.lend(), &self.chosen),
+            _ => Draft::of_numbers(&self.price),
         }
     }
 
     /// The folder of texts without damage.
     fn folder(&self, random: &mut Random, name: String) -> Folder {
         let entries = std::array::from_fn(|file| {
-            let lines = self.lines(random, file);
+            let lines = self.draft(file).lines(random);
             Entry::Text(joined(random, &lines))
         });
         Folder { name, entries }
@@ -128,7 +128,7 @@ impl Content {
 
 /// An unusual thing in a file's place.
 #[derive(Clone, Copy, Debug)]
-enum Unusual {
+pub enum Unusual {
     Absent,
     Folder,
     Empty,
@@ -138,7 +138,7 @@ enum Unusual {
     Spaces(usize),
 }
 
-const UNUSUAL: [Unusual; 8] = [
+pub const UNUSUAL: [Unusual; 8] = [
     Unusual::Absent,
     Unusual::Folder,
     Unusual::Empty,
@@ -151,7 +151,7 @@ const UNUSUAL: [Unusual; 8] = [
 
 impl Unusual {
     /// The unusual thing in the place of a right text.
-    fn entry(self, random: &mut Random, text: Vec<u8>) -> Entry {
+    pub fn entry(self, random: &mut Random, text: Vec<u8>) -> Entry {
         match self {
             Unusual::Absent => Entry::Absent,
             Unusual::Folder => Entry::Folder,
@@ -162,6 +162,9 @@ impl Unusual {
     }
 }
 
+/// One file of so many has numbers in other forms.
+const OTHER_FORMS: u64 = 24;
+
 /// A folder in which now and then a number is wrong, a file is damaged or unusual, or two files are swapped.
 fn any(random: &mut Random, name: String) -> Folder {
     let mut content = Content::any(random);
@@ -169,7 +172,8 @@ fn any(random: &mut Random, name: String) -> Folder {
         content.spoil(random);
     }
     let mut entries = std::array::from_fn(|file| {
-        let lines = content.lines(random, file);
+        let draft = content.draft(file).with_other_forms(random, OTHER_FORMS);
+        let lines = draft.lines(random);
         match random.below(36) {
             0..=5 => Entry::Text(damaged(random, lines)),
             6 => {

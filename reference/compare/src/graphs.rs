@@ -104,6 +104,14 @@ impl Lent {
         }
     }
 
+    /// The last edge, if there is one, is taken out.
+    pub fn lose_last_edge(&mut self) {
+        self.row.pop();
+        self.column.pop();
+        self.weight.pop();
+        self.edges = self.row.len() as u32;
+    }
+
     /// The graph as it is lent.
     pub fn lend(&self) -> Graph<'_> {
         Graph {

@@ -3,15 +3,13 @@
 use crate::files::Folder;
 use crate::folders;
 use crate::runs::{Built, Printed, Program};
-use crate::situations::{demanded, notes, Best, Note};
+use crate::situations::{demanded, notes, Best};
 use crate::solves::Solved;
-use crate::tally::{Seen, Tally};
+use crate::tally::{pick, Note, Tallies};
 use reference::brute::weight_of;
 use reference::programs::{printed, Input, Refused};
 use reference::{feasible_subgraphs, largest_weight, Files, Graph};
-use std::collections::BTreeMap;
 use std::io;
-use std::path::Path;
 
 /// The most edges with which every subgraph is tried here.
 const MOST_TRIED: u32 = 16;
@@ -95,10 +93,7 @@ impl<'a> Run<'a> {
 
     /// Whether a run left behind what it must; if not, why.
     pub fn judge(&self, left: &Printed) -> Result<(), String> {
-        if left.status != Some(0) || !left.err.is_empty() {
-            let error = String::from_utf8_lossy(&left.err);
-            return Err(format!("status {:?}, error {error:?}", left.status));
-        }
+        left.ended_well()?;
         if self.best.is_some() {
             judge_plan(&self.folder.lend(), &left.out)?;
         }
@@ -112,83 +107,35 @@ impl<'a> Run<'a> {
     }
 
     /// Counts a run in every comparison that it belongs to.
-    fn count(&self, left: &Printed, tallies: &mut BTreeMap<String, Tally>) {
+    fn count(&self, left: &Printed, tallies: &mut Tallies) {
         let fault = self.judge(left).err();
-        for (name, seen) in &self.notes {
-            let tally = tallies
-                .entry(name.clone())
-                .or_insert_with(|| Tally::new(name.clone()));
-            tally.note(seen, fault.is_none(), || {
-                let (program, fault) = (self.program.name(), fault.clone().unwrap_or_default());
-                let out = String::from_utf8_lossy(&left.out[..left.out.len().min(300)]);
-                let folder = self.folder.shown();
-                format!("{program}: {fault}, printed {out:?}, {folder}")
-            });
-        }
-    }
-
-    /// Everything that the run shows.
-    fn seen(&self) -> impl Iterator<Item = (&str, &Seen)> {
-        let notes = self.notes.iter();
-        notes.flat_map(|(name, seen)| seen.iter().map(move |one| (name.as_str(), one)))
+        tallies.note(&self.notes, fault.is_none(), || {
+            let (program, fault) = (self.program.name(), fault.clone().unwrap_or_default());
+            let (out, folder) = (left.shown(), self.folder.shown());
+            format!("{program}: {fault}, printed {out}, {folder}")
+        });
     }
 }
 
-/// Picks runs, at most so many, until everything that a run shows is shown by two.
-fn pick_rare(runs: &[Run], most: usize) -> Vec<bool> {
-    let mut times: BTreeMap<(&str, &Seen), usize> = BTreeMap::new();
-    let mut picked = vec![false; runs.len()];
-    let mut count = 0;
-    for enough in [1, 2] {
-        for (run, is_picked) in runs.iter().zip(&mut picked) {
-            let is_rare = |one| times.get(&one).copied().unwrap_or(0) < enough;
-            if count < most && !*is_picked && run.seen().any(is_rare) {
-                *is_picked = true;
-                count += 1;
-                for one in run.seen() {
-                    *times.entry(one).or_default() += 1;
-                }
-            }
-        }
-    }
-    picked
-}
-
-/// Whether each run is among `most` picked ones: those that show something rare, and others at even distances.
-fn pick(runs: &[Run], most: usize) -> Vec<bool> {
-    let mut picked = pick_rare(runs, most);
-    let others: Vec<_> = (0..runs.len()).filter(|&at| !picked[at]).collect();
-    let wanted = most - (runs.len() - others.len());
-    for number in 0..wanted.min(others.len()) {
-        picked[others[number * others.len() / wanted]] = true;
-    }
-    picked
-}
-
-/// Compares the two programs of a folder in the examples and in many other folders, of which `count` are drawn; or some of these runs under valgrind. True for each comparison that saw all it must see and in which nothing was wrong.
-pub fn compare(seed: u64, count: usize, programs: &Path, valgrind: bool) -> io::Result<Vec<bool>> {
-    let built = Built::new(programs, valgrind)?;
+/// Compares `solve` and `mark` in the examples and in many other folders, of which `count` are drawn; under valgrind, only some of these runs. True for each comparison that saw all it must see and in which nothing was wrong.
+pub fn compare(seed: u64, count: usize, built: &Built) -> io::Result<Vec<bool>> {
     let folders = folders::all(seed, count);
     let both = [Program::Solve, Program::Mark];
     let runs = folders
         .iter()
         .flat_map(|folder| both.map(|program| Run::new(program, folder)));
     let mut runs: Vec<_> = runs.collect();
-    if valgrind {
-        let mut picked = pick(&runs, UNDER_VALGRIND).into_iter();
+    if built.valgrind {
+        let notes: Vec<_> = runs.iter().map(|run| run.notes.as_slice()).collect();
+        let mut picked = pick(&notes, UNDER_VALGRIND).into_iter();
         runs.retain(|_| picked.next() == Some(true));
     }
-    let started: Vec<_> = runs.iter().map(|run| (run.program, run.folder)).collect();
-    let left = built.run_all(&started)?;
-    let mut tallies = BTreeMap::new();
+    let starts = runs.iter();
+    let starts = starts.map(|run| (run.program.name(), run.folder.named()));
+    let left = built.run_all(&starts.collect::<Vec<_>>())?;
+    let mut tallies = Tallies::default();
     for (run, left) in runs.iter().zip(&left) {
         run.count(left, &mut tallies);
     }
-    let reports = demanded().into_iter().map(|(name, seen)| {
-        let tally = tallies.entry(name.clone());
-        tally
-            .or_insert_with(|| Tally::new(name))
-            .report_all(1, &seen)
-    });
-    Ok(reports.collect())
+    Ok(tallies.report(&demanded()))
 }

@@ -4,25 +4,35 @@ use crate::graphs::{length, Lent};
 use crate::guard::Guarded;
 use crate::proved;
 use crate::tally::Tally;
-use crate::texts::{damaged, graph_lines, number_lines, subgraph_lines};
-use reference::{Kind, Random, What};
+use crate::texts::{damaged, Draft};
+use reference::{Graph, Head, Kind, Random, Refusal, What};
+use std::fmt::Debug;
 
-fn compare_graphs(random: &mut Random, tally: &mut Tally) {
-    let graph = Lent::any(random);
-    let lines = graph_lines(random, &graph.lend());
-    let text = damaged(random, lines);
-    let lengths = [
-        length(random, 1024),
-        length(random, 1024),
-        length(random, 1024),
-    ];
-    let mut expected = (
+/// What a reader gave for a text in both programs.
+pub struct Read<T> {
+    pub expected: Result<T, Refusal>,
+    proved: Result<T, Refusal>,
+    /// Whether answers and outputs are the same, and nothing else was written.
+    pub agreed: bool,
+}
+
+impl<T: Debug> Read<T> {
+    /// The answers and the text, to be shown.
+    pub fn shown(&self, text: &[u8]) -> String {
+        let text = String::from_utf8_lossy(text);
+        format!("{:?} {:?} {text:?}", self.expected, self.proved)
+    }
+}
+
+/// The graph reader of both programs, with outputs of these lengths.
+pub fn read_graphs(text: &[u8], lengths: [usize; 3]) -> Read<Head> {
+    let mut outputs = (
         vec![9; lengths[0]],
         vec![9; lengths[1]],
         vec![9; lengths[2]],
     );
-    let answer = reference::read_graph(&text, &mut expected.0, &mut expected.1, &mut expected.2);
-    let lent = Guarded::of(&text, 10);
+    let expected = reference::read_graph(text, &mut outputs.0, &mut outputs.1, &mut outputs.2);
+    let lent = Guarded::of(text, 10);
     let mut row = Guarded::new(lengths[0], 5, 77);
     let mut column = Guarded::new(lengths[1], 6, 77);
     let mut weight = Guarded::new(lengths[2], -7, 77);
@@ -32,26 +42,79 @@ fn compare_graphs(random: &mut Random, tally: &mut Tally) {
         column.lend_mut(),
         weight.lend_mut(),
     );
-    let agreed = answer == proved
-        && row.lend() == expected.0
-        && column.lend() == expected.1
-        && weight.lend() == expected.2
+    let agreed = expected == proved
+        && row.lend() == outputs.0
+        && column.lend() == outputs.1
+        && weight.lend() == outputs.2
         && row.unharmed()
         && column.unharmed()
         && weight.unharmed()
         && lent.unharmed()
         && lent.lend() == text;
-    tally.count(&answer, agreed, || {
-        format!("{answer:?} {proved:?} {:?}", String::from_utf8_lossy(&text))
-    });
+    Read {
+        expected,
+        proved,
+        agreed,
+    }
+}
+
+/// The number reader of both programs, with an output of this length.
+pub fn read_numbers(text: &[u8], count: u32, what: What, long: usize) -> Read<()> {
+    let mut output = vec![9; long];
+    let expected = reference::read_numbers(text, count, what, &mut output);
+    let lent = Guarded::of(text, 10);
+    let mut out = Guarded::new(long, -7, 77);
+    let proved = proved::read_numbers(lent.lend(), count, what, out.lend_mut());
+    let agreed = expected == proved
+        && out.lend() == output
+        && out.unharmed()
+        && lent.unharmed()
+        && lent.lend() == text;
+    Read {
+        expected,
+        proved,
+        agreed,
+    }
+}
+
+/// The subgraph reader of both programs, with an output of this length.
+pub fn read_subgraphs(text: &[u8], g: &Graph, long: usize) -> Read<()> {
+    let mut output = vec![9; long];
+    let expected = reference::read_subgraph(text, g, &mut output).map(|_| ());
+    let lent = Guarded::of(text, 10);
+    let mut out = Guarded::new(long, 3, 77);
+    let proved = proved::read_subgraph(lent.lend(), g, out.lend_mut());
+    let agreed = expected == proved
+        && out.lend() == output
+        && out.unharmed()
+        && lent.unharmed()
+        && lent.lend() == text;
+    Read {
+        expected,
+        proved,
+        agreed,
+    }
+}
+
+/// One text of so many has numbers in other forms.
+const OTHER_FORMS: u64 = 6;
+
+/// The text of a draft, damaged now and then, with numbers in other forms now and then.
+fn any_text(random: &mut Random, draft: Draft) -> Vec<u8> {
+    let lines = draft.with_other_forms(random, OTHER_FORMS).lines(random);
+    damaged(random, lines)
+}
+
+fn compare_graphs(random: &mut Random, tally: &mut Tally) {
+    let graph = Lent::any(random);
+    let text = any_text(random, Draft::of_graph(&graph.lend()));
+    let lengths = [1024; 3].map(|right| length(random, right));
+    let read = read_graphs(&text, lengths);
+    tally.count(&read.expected, read.agreed, || read.shown(&text));
 }
 
 fn compare_numbers(random: &mut Random, tally: &mut Tally) {
-    let what = if random.below(2) == 0 {
-        What::Bounds
-    } else {
-        What::Prices
-    };
+    let what = random.pick(&[What::Bounds, What::Prices]);
     let most = if what == What::Bounds { 64 } else { 2_000_000 };
     let held = if random.below(100) == 0 {
         1 + random.below(1152)
@@ -59,8 +122,7 @@ fn compare_numbers(random: &mut Random, tally: &mut Tally) {
         1 + random.below(8)
     } as usize;
     let numbers: Vec<_> = (0..held).map(|_| random.between(0, most)).collect();
-    let lines = number_lines(random, &numbers);
-    let text = damaged(random, lines);
+    let text = any_text(random, Draft::of_numbers(&numbers));
     let count = match random.below(60) {
         0 => random.pick(&[0, 1153, u32::MAX, 1 << 31]),
         1 => held as u32 + 1,
@@ -71,21 +133,9 @@ fn compare_numbers(random: &mut Random, tally: &mut Tally) {
     } else {
         (count as usize).min(4096)
     };
-    let mut expected = vec![9; long];
-    let answer = reference::read_numbers(&text, count, what, &mut expected);
-    let lent = Guarded::of(&text, 10);
-    let mut out = Guarded::new(long, -7, 77);
-    let proved = proved::read_numbers(lent.lend(), count, what, out.lend_mut());
-    let agreed = answer == proved
-        && out.lend() == expected
-        && out.unharmed()
-        && lent.unharmed()
-        && lent.lend() == text;
-    tally.count(&answer, agreed, || {
-        format!(
-            "{answer:?} {proved:?} {count} {what:?} {long} {:?}",
-            String::from_utf8_lossy(&text)
-        )
+    let read = read_numbers(&text, count, what, long);
+    tally.count(&read.expected, read.agreed, || {
+        format!("{count} {what:?} {long} {}", read.shown(&text))
     });
 }
 
@@ -125,21 +175,11 @@ fn compare_subgraphs(random: &mut Random, tally: &mut Tally) {
     } else {
         g.kind
     };
-    let lines = subgraph_lines(random, kind, &g, &chosen);
-    let text = damaged(random, lines);
+    let text = any_text(random, Draft::of_subgraph(kind, &g, &chosen));
     let long = length(random, (g.edges as usize).min(4096));
-    let mut expected = vec![9; long];
-    let answer = reference::read_subgraph(&text, &g, &mut expected).map(|_| ());
-    let lent_text = Guarded::of(&text, 10);
-    let mut out = Guarded::new(long, 3, 77);
-    let proved = proved::read_subgraph(lent_text.lend(), &g, out.lend_mut());
-    let agreed =
-        answer == proved && out.lend() == expected && out.unharmed() && lent_text.unharmed();
-    tally.count(&answer, agreed, || {
-        format!(
-            "{answer:?} {proved:?} {g:?} {long} {:?}",
-            String::from_utf8_lossy(&text)
-        )
+    let read = read_subgraphs(&text, &g, long);
+    tally.count(&read.expected, read.agreed, || {
+        format!("{g:?} {long} {}", read.shown(&text))
     });
 }
 

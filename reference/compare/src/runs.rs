@@ -1,6 +1,6 @@
-//! Running the built programs `solve` and `mark`.
+//! Running the built programs.
 
-use crate::files::{Folder, NAMES};
+use crate::files::{write_folder, Named, NAMES};
 use reference::programs::{mark_files, solve_files, Refused};
 use reference::Files;
 use std::fmt::Display;
@@ -14,7 +14,10 @@ use std::thread;
 /// How many programs run at a time.
 const THREADS: usize = 2;
 
-/// One of the two programs.
+/// The name of the program that writes the numbers of an old text in the one way.
+pub const REWRITE: &str = "rewrite";
+
+/// One of the two programs on a graph and its bounds.
 #[derive(Clone, Copy, Debug, PartialEq, Eq)]
 pub enum Program {
     Solve,
@@ -58,6 +61,26 @@ pub struct Printed {
     pub status: Option<i32>,
 }
 
+impl Printed {
+    /// Whether the run ended as it must, without a word on standard error; if not, how.
+    pub fn ended_well(&self) -> Result<(), String> {
+        if self.status == Some(0) && self.err.is_empty() {
+            return Ok(());
+        }
+        let error = String::from_utf8_lossy(&self.err);
+        Err(format!("status {:?}, error {error:?}", self.status))
+    }
+
+    /// The beginning of standard output, to be shown.
+    pub fn shown(&self) -> String {
+        let beginning = &self.out[..self.out.len().min(300)];
+        format!("{:?}", String::from_utf8_lossy(beginning))
+    }
+}
+
+/// The name of a program, and what stands in the folder in which it is to run.
+pub type Start<'a> = (&'static str, Named<'a>);
+
 /// An error that says what it is about.
 fn about(what: impl Display, error: io::Error) -> io::Error {
     io::Error::new(error.kind(), format!("{what}: {error}"))
@@ -86,14 +109,15 @@ impl Drop for Room {
 /// The built programs, run as they are or under valgrind.
 pub struct Built {
     folder: PathBuf,
-    valgrind: bool,
+    /// Whether they are run under valgrind.
+    pub valgrind: bool,
 }
 
 impl Built {
     /// The programs in a folder; an error if one is not there.
     pub fn new(folder: &Path, valgrind: bool) -> io::Result<Built> {
-        for program in [Program::Solve, Program::Mark] {
-            let path = folder.join(program.name());
+        for program in [Program::Solve.name(), Program::Mark.name(), REWRITE] {
+            let path = folder.join(program);
             fs::metadata(&path).map_err(|error| about(path.display(), error))?;
         }
         Ok(Built {
@@ -102,8 +126,16 @@ impl Built {
         })
     }
 
-    fn command(&self, program: Program) -> Command {
-        let path = self.folder.join(program.name());
+    /// The same programs, run as they are.
+    pub fn without_valgrind(&self) -> Built {
+        Built {
+            folder: self.folder.clone(),
+            valgrind: false,
+        }
+    }
+
+    fn command(&self, program: &str) -> Command {
+        let path = self.folder.join(program);
         if !self.valgrind {
             return Command::new(path);
         }
@@ -113,8 +145,8 @@ impl Built {
     }
 
     /// Runs a program in a folder made for it.
-    fn run(&self, program: Program, folder: &Folder, path: &Path) -> io::Result<Printed> {
-        folder.write(path)?;
+    fn run(&self, (program, files): &Start, path: &Path) -> io::Result<Printed> {
+        write_folder(path, files)?;
         let mut command = self.command(program);
         command.current_dir(path).stdin(Stdio::null());
         let output = command
@@ -128,17 +160,17 @@ impl Built {
     }
 
     /// Runs each program in its folder, some at a time; what they leave behind is in the same order.
-    pub fn run_all(&self, runs: &[(Program, &Folder)]) -> io::Result<Vec<Printed>> {
+    pub fn run_all(&self, runs: &[Start]) -> io::Result<Vec<Printed>> {
         let room = Room::new()?;
         let next = AtomicUsize::new(0);
         let work = |path: PathBuf| -> io::Result<Vec<(usize, Printed)>> {
             let mut done = Vec::new();
             loop {
                 let at = next.fetch_add(1, Ordering::Relaxed);
-                let Some(&(program, folder)) = runs.get(at) else {
+                let Some(start) = runs.get(at) else {
                     return Ok(done);
                 };
-                done.push((at, self.run(program, folder, &path)?));
+                done.push((at, self.run(start, &path)?));
             }
         };
         let mut done = Vec::new();

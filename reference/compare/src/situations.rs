@@ -3,12 +3,9 @@
 use crate::examples::{self, is_example};
 use crate::files::{Entry, Folder};
 use crate::runs::Program;
-use crate::tally::Seen;
+use crate::tally::{Note, Seen};
 use reference::programs::{Input, Refused};
 use reference::{Graph, Kind};
-
-/// The name of a comparison, and what is seen in it.
-pub type Note = (String, Vec<Seen>);
 
 /// How many subgraphs of a graph are optimal.
 #[derive(Clone, Copy, Debug, PartialEq, Eq)]
@@ -42,11 +39,12 @@ const EMPTY: &str = "empty files";
 const LONGEST: &str = "files of 32,768 bytes, taken";
 const TOO_LONG: &str = "files of 32,769 bytes, refused";
 const FAR_TOO_LONG: &str = "files of 1,000,000 bytes, refused";
-const UNUSUAL: [&str; 6] = [ABSENT, FOLDERS, EMPTY, LONGEST, TOO_LONG, FAR_TOO_LONG];
+pub const UNUSUAL: [&str; 6] = [ABSENT, FOLDERS, EMPTY, LONGEST, TOO_LONG, FAR_TOO_LONG];
 
 const EXAMPLES: &str = "the examples";
 
-fn other(words: impl Into<String>) -> Seen {
+/// Something that is seen, in words.
+pub fn other(words: impl Into<String>) -> Seen {
     Seen::Other(words.into())
 }
 
@@ -60,7 +58,7 @@ fn with(program: Program, what: &str) -> Seen {
 }
 
 /// The size and the kind of a graph, in words.
-fn sort_of_graph(kind: Kind, full: bool) -> Seen {
+pub fn sort_of_graph(kind: Kind, full: bool) -> Seen {
     let size = if full { "full" } else { "small" };
     other(match kind {
         Kind::Bipartite => format!("{size} bipartite graphs"),
@@ -84,7 +82,7 @@ fn seen_in_result(g: &Graph, text: &[u8], best: Option<Best>) -> Note {
 }
 
 /// What is unusual about a file, if anything; `taken` says that its reader does not refuse it.
-fn unusual(entry: &Entry, taken: bool) -> Option<&'static str> {
+pub fn unusual(entry: &Entry, taken: bool) -> Option<&'static str> {
     let length = match entry {
         Entry::Absent => return Some(ABSENT),
         Entry::Folder => return Some(FOLDERS),

@@ -102,6 +102,73 @@ impl Tally {
     }
 }
 
+/// The name of a comparison, and what is seen in it.
+pub type Note = (String, Vec<Seen>);
+
+/// Several comparisons, by their names.
+#[derive(Default)]
+pub struct Tallies {
+    tallies: BTreeMap<String, Tally>,
+}
+
+impl Tallies {
+    fn tally(&mut self, name: &str) -> &mut Tally {
+        let tally = self.tallies.entry(name.into());
+        tally.or_insert_with(|| Tally::new(name))
+    }
+
+    /// Counts something in every comparison that it belongs to; `show` describes it if it is not as it must be.
+    pub fn note(&mut self, notes: &[Note], agreed: bool, show: impl Fn() -> String) {
+        for (name, seen) in notes {
+            self.tally(name).note(seen, agreed, &show);
+        }
+    }
+
+    /// The reports of the comparisons, of which all these must be seen.
+    pub fn report(&mut self, demanded: &[Note]) -> Vec<bool> {
+        let reports = demanded.iter();
+        let reports = reports.map(|(name, seen)| self.tally(name).report_all(1, seen));
+        reports.collect()
+    }
+}
+
+/// Everything that a run shows.
+fn shown(notes: &[Note]) -> impl Iterator<Item = (&str, &Seen)> {
+    let notes = notes.iter();
+    notes.flat_map(|(name, seen)| seen.iter().map(move |one| (name.as_str(), one)))
+}
+
+/// Picks runs by their notes, at most so many, until everything that a run shows is shown by two.
+fn pick_rare(runs: &[&[Note]], most: usize) -> Vec<bool> {
+    let mut times: BTreeMap<(&str, &Seen), usize> = BTreeMap::new();
+    let mut picked = vec![false; runs.len()];
+    let mut count = 0;
+    for enough in [1, 2] {
+        for (run, is_picked) in runs.iter().zip(&mut picked) {
+            let is_rare = |one| times.get(&one).copied().unwrap_or(0) < enough;
+            if count < most && !*is_picked && shown(run).any(is_rare) {
+                *is_picked = true;
+                count += 1;
+                for one in shown(run) {
+                    *times.entry(one).or_default() += 1;
+                }
+            }
+        }
+    }
+    picked
+}
+
+/// Whether each run is among `most` picked ones: those that show something rare, and others at even distances.
+pub fn pick(runs: &[&[Note]], most: usize) -> Vec<bool> {
+    let mut picked = pick_rare(runs, most);
+    let others: Vec<_> = (0..runs.len()).filter(|&at| !picked[at]).collect();
+    let wanted = most - (runs.len() - others.len());
+    for number in 0..wanted.min(others.len()) {
+        picked[others[number * others.len() / wanted]] = true;
+    }
+    picked
+}
+
 /// Ends a program of comparisons: prints how many were as they must be, and exits with status 1 if one was not.
 pub fn finish(results: &[bool]) {
     let failed = results.iter().filter(|&&agreed| !agreed).count();

@@ -1,5 +1,6 @@
 //! Texts of graphs, numbers and subgraphs, valid and damaged.
 
+use crate::forms::{Form, Role};
 use reference::{Graph, Kind, Random};
 
 const SPECIAL: &[u8] = &[0, 9, 10, 13, 32, 37, 43, 45, 48, 57, 65, 97, 255];
@@ -44,22 +45,6 @@ const TOKENS: &[&str] = &[
 ];
 const SYMMETRIC: &str = "symmetric";
 const GENERAL: &str = "general";
-
-/// A number, written in one of the ways that are taken.
-fn number(random: &mut Random, value: i64, signed: bool) -> String {
-    let digits = value.unsigned_abs().to_string();
-    let zeros = if random.below(6) == 0 {
-        random.below(10 - digits.len() as u64) as usize
-    } else {
-        0
-    };
-    let sign = match (value < 0, signed && random.below(6) == 0) {
-        (true, _) => "-",
-        (false, true) => "+",
-        (false, false) => "",
-    };
-    format!("{sign}{}{digits}", "0".repeat(zeros))
-}
 
 /// Words with blanks between them, and perhaps around them.
 fn spaced(random: &mut Random, words: &[String], leading: bool) -> Vec<u8> {
@@ -110,34 +95,158 @@ fn header(random: &mut Random, words: &str) -> Vec<u8> {
     spaced(random, &all, false)
 }
 
-/// A valid text: header, comments and blank lines, size line, later lines.
-fn text(
-    random: &mut Random,
-    words: &str,
-    sizes: &[i64],
-    later: &[Vec<(i64, bool)>],
-) -> Vec<Vec<u8>> {
-    let mut lines = vec![header(random, words)];
-    for _ in 0..random.below(3) {
-        lines.push(match random.below(3) {
-            0 => b"% a comment".to_vec(),
-            1 => b" \t ".to_vec(),
-            _ => Vec::new(),
-        });
-    }
-    let sizes: Vec<_> = sizes.iter().map(|&n| number(random, n, false)).collect();
-    lines.push(spaced(random, &sizes, true));
-    for line in later {
-        if random.below(12) == 0 {
-            lines.push(Vec::new());
+/// A number of a text.
+#[derive(Clone, Copy, Debug)]
+struct Cell {
+    value: i64,
+    role: Role,
+    form: Form,
+}
+
+impl Cell {
+    /// A number of at most nine digits in the one way.
+    fn new(value: impl Into<i64>, role: Role) -> Cell {
+        Cell {
+            value: value.into().clamp(-999_999_999, 999_999_999),
+            role,
+            form: Form::Plain,
         }
-        let words: Vec<_> = line
-            .iter()
-            .map(|&(n, signed)| number(random, n, signed))
-            .collect();
-        lines.push(spaced(random, &words, true));
     }
-    lines
+}
+
+/// A text before it is written: the header's words after the first, and the numbers of the size line and of each later line.
+#[derive(Clone, Debug)]
+pub struct Draft {
+    header: String,
+    lines: Vec<Vec<Cell>>,
+}
+
+impl Draft {
+    fn new(header: String, sizes: &[u32], later: impl Iterator<Item = Vec<Cell>>) -> Draft {
+        let sizes = sizes.iter().map(|&size| Cell::new(size, Role::Size));
+        let mut lines = vec![sizes.collect()];
+        lines.extend(later);
+        Draft { header, lines }
+    }
+
+    /// The text of a graph: valid for a right graph.
+    pub fn of_graph(g: &Graph) -> Draft {
+        let ends = g.row.iter().zip(g.column);
+        let later = ends.zip(g.weight).map(|((&row, &column), &weight)| {
+            vec![
+                Cell::new(row, Role::Index),
+                Cell::new(column, Role::Index),
+                Cell::new(weight, Role::Signed),
+            ]
+        });
+        let header = format!("matrix coordinate integer {}", last_word(g.kind));
+        Draft::new(header, &[g.rows, g.columns, g.edges], later)
+    }
+
+    /// The text of bounds or prices: valid for numbers in range.
+    pub fn of_numbers(numbers: &[i32]) -> Draft {
+        let later = numbers
+            .iter()
+            .map(|&number| vec![Cell::new(number, Role::Signed)]);
+        let header = "matrix array integer general".into();
+        Draft::new(header, &[numbers.len() as u32, 1], later)
+    }
+
+    /// The text of a subgraph with this kind in its header: valid for a right graph of this kind and different edges of it.
+    pub fn of_subgraph(kind: Kind, g: &Graph, chosen: &[usize]) -> Draft {
+        let later = chosen.iter().map(|&e| {
+            let column = g.column.get(e).copied().unwrap_or(1);
+            vec![
+                Cell::new(g.row[e], Role::Index),
+                Cell::new(column, Role::Index),
+            ]
+        });
+        let header = format!("matrix coordinate pattern {}", last_word(kind));
+        Draft::new(header, &[g.rows, g.columns, chosen.len() as u32], later)
+    }
+
+    fn cells(&mut self) -> impl Iterator<Item = &mut Cell> {
+        self.lines.iter_mut().flatten()
+    }
+
+    /// Any number of a role.
+    fn any_cell(&mut self, random: &mut Random, role: Role) -> Option<&mut Cell> {
+        let mut cells: Vec<_> = self.cells().filter(|cell| cell.role == role).collect();
+        match cells.len() {
+            0 => None,
+            count => Some(cells.swap_remove(random.below(count as u64) as usize)),
+        }
+    }
+
+    /// One number in so many gets another form that the old rules take.
+    pub fn in_old_forms(mut self, random: &mut Random, one_in: u64) -> Draft {
+        for cell in self.cells() {
+            if random.below(one_in) == 0 {
+                cell.form = Form::old(random, cell.value, cell.role);
+            }
+        }
+        self
+    }
+
+    /// A number of a role gets a form; false if the text has none of this role.
+    pub fn put(&mut self, random: &mut Random, role: Role, form: Form) -> bool {
+        let cell = self.any_cell(random, role);
+        cell.map(|cell| cell.form = form).is_some()
+    }
+
+    /// A number of a role gets another value; false if the text has none of this role.
+    pub fn set(&mut self, random: &mut Random, role: Role, value: i64) -> bool {
+        let cell = self.any_cell(random, role);
+        cell.map(|cell| cell.value = value).is_some()
+    }
+
+    /// A later line gets the ends of another; nothing if there are not two.
+    pub fn repeat_ends(&mut self, random: &mut Random) {
+        let later = &mut self.lines[1..];
+        if later.len() > 1 {
+            let from = random.below(later.len() as u64 - 1) as usize;
+            let ends = [later[from][0], later[from][1]];
+            later[from + 1][..2].copy_from_slice(&ends);
+        }
+    }
+
+    /// In one text of so many one to three numbers get any form.
+    pub fn with_other_forms(mut self, random: &mut Random, one_in: u64) -> Draft {
+        if random.below(one_in) == 0 {
+            for _ in 0..1 + random.below(3) {
+                let (role, form) = (random.pick(&Role::ALL), random.pick(&Form::ALL));
+                self.put(random, role, form);
+            }
+        }
+        self
+    }
+
+    /// The lines of the text: header, comments and blank lines, size line, later lines.
+    pub fn lines(&self, random: &mut Random) -> Vec<Vec<u8>> {
+        let mut lines = vec![header(random, &self.header)];
+        for _ in 0..random.below(3) {
+            lines.push(match random.below(4) {
+                0 => b"% a comment".to_vec(),
+                1 => b"%\t007 +7 -0  ".to_vec(),
+                2 => b" \t ".to_vec(),
+                _ => Vec::new(),
+            });
+        }
+        for (at, line) in self.lines.iter().enumerate() {
+            if at > 0 && random.below(12) == 0 {
+                lines.push(random.pick(&[b"".as_slice(), b" \t"]).to_vec());
+            }
+            let words: Vec<_> = line
+                .iter()
+                .map(|cell| cell.form.write(random, cell.value))
+                .collect();
+            lines.push(spaced(random, &words, true));
+        }
+        if random.below(12) == 0 {
+            lines.push(b"\t".to_vec());
+        }
+        lines
+    }
 }
 
 /// The lines as one text; the last may lack its byte 10.
@@ -257,55 +366,4 @@ fn last_word(kind: Kind) -> &'static str {
         Kind::Bipartite => GENERAL,
         Kind::General => SYMMETRIC,
     }
-}
-
-/// A number of at most nine digits.
-fn nine_digits(number: impl Into<i64>) -> i64 {
-    number.into().clamp(-999_999_999, 999_999_999)
-}
-
-/// The lines of a text of a graph: valid for a right graph.
-pub fn graph_lines(random: &mut Random, g: &Graph) -> Vec<Vec<u8>> {
-    let ends = g.row.iter().zip(g.column);
-    let later: Vec<_> = ends
-        .zip(g.weight)
-        .map(|((&row, &column), &weight)| {
-            vec![
-                (nine_digits(row), false),
-                (nine_digits(column), false),
-                (nine_digits(weight), true),
-            ]
-        })
-        .collect();
-    let words = format!("matrix coordinate integer {}", last_word(g.kind));
-    let sizes = [g.rows, g.columns, g.edges].map(nine_digits);
-    text(random, &words, &sizes, &later)
-}
-
-/// The lines of a text of bounds or prices: valid for numbers in range.
-pub fn number_lines(random: &mut Random, numbers: &[i32]) -> Vec<Vec<u8>> {
-    let later: Vec<_> = numbers.iter().map(|&n| vec![(n as i64, true)]).collect();
-    let sizes = [numbers.len() as i64, 1];
-    text(random, "matrix array integer general", &sizes, &later)
-}
-
-/// The lines of a text of a subgraph with this kind in its header: valid for a right graph of this kind and different edges of it.
-pub fn subgraph_lines(
-    random: &mut Random,
-    kind: Kind,
-    g: &Graph,
-    chosen: &[usize],
-) -> Vec<Vec<u8>> {
-    let later: Vec<_> = chosen
-        .iter()
-        .map(|&e| {
-            vec![
-                (nine_digits(g.row[e]), false),
-                (nine_digits(g.column.get(e).copied().unwrap_or(1)), false),
-            ]
-        })
-        .collect();
-    let words = format!("matrix coordinate pattern {}", last_word(kind));
-    let sizes = [g.rows, g.columns, later.len() as u32].map(nine_digits);
-    text(random, &words, &sizes, &later)
 }

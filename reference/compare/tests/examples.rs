@@ -1,9 +1,11 @@
 //! The separately written program and the proved calls on the examples of the repository.
 
-use compare::examples::example;
+use compare::examples::{example, file, texts};
+use compare::files::OLD;
 use compare::proved;
 use reference::programs::Input;
-use reference::{mark_output, solve_output};
+use reference::rewrite::CANNOT_READ;
+use reference::{mark_output, rewrite, solve_output};
 
 fn solve(name: &str) -> String {
     String::from_utf8(solve_output(&example(name).lend())).unwrap()
@@ -93,4 +95,30 @@ fn the_tank_has_gap_0_with_its_group_and_not_without() {
 #[test]
 fn an_absent_file_is_an_empty_text() {
     assert_eq!(solve("examples/nowhere"), "refused 2 at 1 in sheet.mtx\n");
+}
+
+#[test]
+fn the_old_example_is_rewritten() {
+    let old = file(&format!("examples/old/{OLD}"));
+    let written = file("crates/rewrite/stdout");
+    let (old, written) = (old.text().unwrap(), written.text().unwrap());
+    assert_eq!(rewrite(old), written);
+    assert_ne!(old, written);
+    let mut out = ([0; 1024], [0; 1024], [0; 1024]);
+    assert!(proved::read_graph(old, &mut out.0, &mut out.1, &mut out.2).is_err());
+    assert!(proved::read_graph(written, &mut out.0, &mut out.1, &mut out.2).is_ok());
+}
+
+#[test]
+fn the_other_examples_have_nothing_to_rewrite() {
+    for (name, entry) in texts() {
+        let text = entry.text().unwrap();
+        let expected = match name.as_str() {
+            "examples/class/damaged/plan.mtx" => CANNOT_READ,
+            _ => text,
+        };
+        if !name.ends_with(OLD) {
+            assert_eq!(rewrite(text), expected, "{name}");
+        }
+    }
 }

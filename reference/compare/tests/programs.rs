@@ -2,7 +2,9 @@
 
 use compare::examples::example;
 use compare::files::{Entry, Folder};
+use compare::old_texts::OldText;
 use compare::programs::Run;
+use compare::rewrites::Rewriting;
 use compare::runs::{Printed, Program};
 
 const PLAN: &str = "%%MatrixMarket matrix coordinate pattern general\n2 2 2\n1 2\n2 1\n";
@@ -127,5 +129,45 @@ fn an_exit_status_and_standard_error_are_compared() {
     };
     for left in [failed, ended, spoke] {
         assert!(run.judge(&left).is_err(), "{left:?}");
+    }
+}
+
+/// Whether `rewrite` may print this for a text, and for what it printed this again.
+fn may_rewrite(old: &str, out: &str, again: &str) -> bool {
+    let old = OldText::new(old.into(), Entry::Text(old.into()));
+    let rewriting = Rewriting::new(&old);
+    rewriting.judge(&printed(out), &printed(again)).is_ok()
+}
+
+#[test]
+fn only_numbers_may_be_rewritten() {
+    let old = "%%MatrixMarket matrix Coordinate pattern general\n% 007\n02 2\t02 \n\n1 02\n2 1";
+    let new = "%%MatrixMarket matrix Coordinate pattern general\n% 007\n2 2\t2 \n\n1 2\n2 1";
+    assert!(may_rewrite(old, new, new));
+    assert!(may_rewrite(new, new, new));
+    for wrong in [
+        old.to_string(),
+        new.replace("% 007", "% 7"),
+        new.replace("Coordinate", "coordinate"),
+        new.replace('\t', " "),
+        new.replace("2 \n", "2\n"),
+        new.replace("\n\n", "\n"),
+        new.replace("1 2\n2 1", "2 1\n1 2"),
+        format!("{new}\n"),
+        "cannot read\n".into(),
+        String::new(),
+    ] {
+        assert!(!may_rewrite(old, &wrong, &wrong), "{wrong:?}");
+        assert!(!may_rewrite(old, new, &wrong), "{wrong:?} again");
+    }
+}
+
+#[test]
+fn what_the_old_rules_refuse_may_not_be_rewritten() {
+    let old = "%%MatrixMarket matrix array integer general\n1 1\n+2000001\n";
+    let line = "cannot read\n";
+    assert!(may_rewrite(old, line, line));
+    for wrong in [old, &old.replace('+', ""), "cannot read", ""] {
+        assert!(!may_rewrite(old, wrong, wrong), "{wrong:?}");
     }
 }

@@ -1,5 +1,6 @@
 //! The separately written program of document 01, "The crossing sheet, its
-//! plans and its prices", and of document 02's request for an index.
+//! plans and its prices", and of document 02's requests for an index and for
+//! one way to write a number.
 //!
 //! It uses the field's words. Each definition says which word of the documents
 //! it is.
@@ -15,6 +16,7 @@ pub mod programs;
 pub mod random;
 pub mod read;
 pub mod refusal;
+pub mod rewrite;
 pub mod solve;
 pub mod text;
 pub mod write;
@@ -25,7 +27,10 @@ pub use index::{build_index, index_length, test_index};
 pub use measure::{measure, Measures};
 pub use programs::{mark_output, solve_output, Files};
 pub use random::{random_graph, Random};
-pub use read::{read_graph, read_numbers, read_subgraph, What};
+pub use read::{read_graph, read_graph_by, read_numbers, read_numbers_by};
+pub use read::{read_subgraph, read_subgraph_by, What};
 pub use refusal::Refusal;
+pub use rewrite::{own_graph, rewrite};
 pub use solve::solve;
+pub use text::Rules;
 pub use write::write_subgraph;

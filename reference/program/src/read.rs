@@ -5,7 +5,7 @@ use crate::graph::{
     test_graph, weight_in_range, Graph, Head, PairSet, MOST_EDGES, MOST_VERTICES,
 };
 use crate::refusal::Refusal;
-use crate::text::{integer, natural, naturals, Header, Lines, MOST_TEXT};
+use crate::text::{Header, Lines, Rules, MOST_TEXT};
 
 /// The most numbers of a number text: those of 128 vertices and 1,024 edges.
 pub const MOST_NUMBERS: u32 = 1_152;
@@ -20,11 +20,11 @@ pub enum What {
 }
 
 /// The lines of a text that is not too long (refusal 1).
-fn lines_of(text: &[u8]) -> Result<Lines<'_>, Refusal> {
+fn lines_of(text: &[u8], rules: Rules) -> Result<Lines<'_>, Refusal> {
     if text.len() > MOST_TEXT {
         return Err(Refusal::new(1, 0));
     }
-    Ok(Lines::new(text))
+    Ok(Lines::new(text, rules))
 }
 
 /// Reads a graph (sheet reader). The outputs have 1,024 numbers each; those
@@ -35,10 +35,21 @@ pub fn read_graph(
     column: &mut [u32],
     weight: &mut [i32],
 ) -> Result<Head, Refusal> {
+    read_graph_by(Rules::New, text, row, column, weight)
+}
+
+/// Reads a graph by these rules.
+pub fn read_graph_by(
+    rules: Rules,
+    text: &[u8],
+    row: &mut [u32],
+    column: &mut [u32],
+    weight: &mut [i32],
+) -> Result<Head, Refusal> {
     row.fill(0);
     column.fill(0);
     weight.fill(0);
-    let read = read_graph_into(text, row, column, weight);
+    let read = read_graph_into(rules, text, row, column, weight);
     if read.is_err() {
         row.fill(0);
         column.fill(0);
@@ -49,6 +60,7 @@ pub fn read_graph(
 
 /// Reads a graph into outputs that hold only 0.
 fn read_graph_into(
+    rules: Rules,
     text: &[u8],
     row: &mut [u32],
     column: &mut [u32],
@@ -61,7 +73,7 @@ fn read_graph_into(
     {
         return Err(Refusal::new(9, 0));
     }
-    let mut lines = lines_of(text)?;
+    let mut lines = lines_of(text, rules)?;
     let Header::Graph(kind) = lines.header()? else {
         return Err(lines.refuse(2));
     };
@@ -72,8 +84,8 @@ fn read_graph_into(
     let mut earlier = PairSet::new();
     for edge in 0..edges as usize {
         let [first, second, third] = lines.entry()?;
-        let ends = naturals([first, second]);
-        let (Some([r, c]), Some(w)) = (ends, integer(third)) else {
+        let ends = rules.naturals([first, second]);
+        let (Some([r, c]), Some(w)) = (ends, rules.integer(third)) else {
             return Err(lines.refuse(5));
         };
         if !ends_in_range(kind, rows, columns, r, c) {
@@ -101,7 +113,18 @@ fn read_graph_into(
 /// Reads bounds or prices (number reader, told the count). The output has the
 /// count passed; after a refusal it is all 0.
 pub fn read_numbers(text: &[u8], count: u32, what: What, out: &mut [i32]) -> Result<(), Refusal> {
-    let read = read_numbers_into(text, count, what, out);
+    read_numbers_by(Rules::New, text, count, what, out)
+}
+
+/// Reads bounds or prices by these rules.
+pub fn read_numbers_by(
+    rules: Rules,
+    text: &[u8],
+    count: u32,
+    what: What,
+    out: &mut [i32],
+) -> Result<(), Refusal> {
+    let read = read_numbers_into(rules, text, count, what, out);
     if read.is_err() {
         out.fill(0);
     }
@@ -109,14 +132,20 @@ pub fn read_numbers(text: &[u8], count: u32, what: What, out: &mut [i32]) -> Res
 }
 
 /// Reads bounds or prices; after a refusal the output holds anything.
-fn read_numbers_into(text: &[u8], count: u32, what: What, out: &mut [i32]) -> Result<(), Refusal> {
+fn read_numbers_into(
+    rules: Rules,
+    text: &[u8],
+    count: u32,
+    what: What,
+    out: &mut [i32],
+) -> Result<(), Refusal> {
     if !has_length(out.len(), u64::from(count)) {
         return Err(Refusal::new(9, 0));
     }
     if !(1..=MOST_NUMBERS).contains(&count) {
         return Err(Refusal::new(4, 0));
     }
-    let mut lines = lines_of(text)?;
+    let mut lines = lines_of(text, rules)?;
     let Header::Numbers = lines.header()? else {
         return Err(lines.refuse(2));
     };
@@ -125,7 +154,7 @@ fn read_numbers_into(text: &[u8], count: u32, what: What, out: &mut [i32]) -> Re
     }
     for number in out.iter_mut() {
         let [word] = lines.entry()?;
-        let Some(value) = integer(word) else {
+        let Some(value) = rules.integer(word) else {
             return Err(lines.refuse(5));
         };
         match what {
@@ -140,8 +169,18 @@ fn read_numbers_into(text: &[u8], count: u32, what: What, out: &mut [i32]) -> Re
 /// Reads a subgraph (plan reader) and hands back its count of chosen edges.
 /// There is one mark for each edge of the graph; after a refusal all are 0.
 pub fn read_subgraph(text: &[u8], graph: &Graph, chosen: &mut [u8]) -> Result<u32, Refusal> {
+    read_subgraph_by(Rules::New, text, graph, chosen)
+}
+
+/// Reads a subgraph by these rules.
+pub fn read_subgraph_by(
+    rules: Rules,
+    text: &[u8],
+    graph: &Graph,
+    chosen: &mut [u8],
+) -> Result<u32, Refusal> {
     chosen.fill(0);
-    let read = read_subgraph_into(text, graph, chosen);
+    let read = read_subgraph_into(rules, text, graph, chosen);
     if read.is_err() {
         chosen.fill(0);
     }
@@ -149,12 +188,17 @@ pub fn read_subgraph(text: &[u8], graph: &Graph, chosen: &mut [u8]) -> Result<u3
 }
 
 /// Reads a subgraph into marks that are all 0.
-fn read_subgraph_into(text: &[u8], graph: &Graph, chosen: &mut [u8]) -> Result<u32, Refusal> {
+fn read_subgraph_into(
+    rules: Rules,
+    text: &[u8],
+    graph: &Graph,
+    chosen: &mut [u8],
+) -> Result<u32, Refusal> {
     if !graph_lengths_right(graph) || !has_length(chosen.len(), u64::from(graph.edges)) {
         return Err(Refusal::new(9, 0));
     }
     test_graph(graph)?;
-    let mut lines = lines_of(text)?;
+    let mut lines = lines_of(text, rules)?;
     let Header::Subgraph(kind) = lines.header()? else {
         return Err(lines.refuse(2));
     };
@@ -170,8 +214,7 @@ fn read_subgraph_into(text: &[u8], graph: &Graph, chosen: &mut [u8]) -> Result<u
     }
     let edge_of = EdgeTable::new(graph);
     for _ in 0..count {
-        let [first, second] = lines.entry()?;
-        let (Some(r), Some(c)) = (natural(first), natural(second)) else {
+        let Some([r, c]) = rules.naturals(lines.entry()?) else {
             return Err(lines.refuse(5));
         };
         if !ends_in_range(kind, rows, columns, r, c) {

@@ -8,19 +8,77 @@ pub const MOST_TEXT: usize = 32_768;
 /// The most bytes of a line before its byte 10.
 pub const MOST_LINE: usize = 1_024;
 
+/// The rules by which numbers are written.
+#[derive(Clone, Copy, Debug, PartialEq, Eq)]
+pub enum Rules {
+    /// Document 01's: leading zeros are taken, and a + before a signed number.
+    Old,
+    /// Document 02's request for one way: no leading zero unless the number is
+    /// the single digit 0, no + and no -0.
+    New,
+}
+
+impl Rules {
+    /// A size or an index: 1 to 9 digits.
+    pub(crate) fn natural(self, word: &[u8]) -> Option<u32> {
+        let has_leading_zero = word.len() > 1 && word.starts_with(b"0");
+        if self == Rules::New && has_leading_zero {
+            return None;
+        }
+        if word.is_empty() || word.len() > 9 {
+            return None;
+        }
+        let mut value = 0;
+        for &byte in word {
+            if !byte.is_ascii_digit() {
+                return None;
+            }
+            value = 10 * value + u32::from(byte - b'0');
+        }
+        Some(value)
+    }
+
+    /// Sizes or indices.
+    pub(crate) fn naturals<const COUNT: usize>(
+        self,
+        words: [&[u8]; COUNT],
+    ) -> Option<[u32; COUNT]> {
+        let mut out = [0; COUNT];
+        for (value, word) in out.iter_mut().zip(words) {
+            *value = self.natural(word)?;
+        }
+        Some(out)
+    }
+
+    /// A whole number as a weight is written: an optional - and 1 to 9 digits,
+    /// by the old rules an optional + too.
+    pub(crate) fn integer(self, word: &[u8]) -> Option<i32> {
+        match word {
+            [b'-', digits @ ..] => match self.natural(digits)? {
+                0 if self == Rules::New => None,
+                value => Some(-(value as i32)),
+            },
+            [b'+', digits @ ..] if self == Rules::Old => Some(self.natural(digits)? as i32),
+            digits => Some(self.natural(digits)? as i32),
+        }
+    }
+}
+
 /// The lines of a text from the top. A line ends at byte 10; the last may lack
 /// it, and nothing after a final byte 10 is no line.
 pub(crate) struct Lines<'a> {
     rest: &'a [u8],
     number: u64,
+    rules: Rules,
 }
 
 impl<'a> Lines<'a> {
-    /// All lines of a text.
-    pub(crate) fn new(text: &'a [u8]) -> Lines<'a> {
+    /// All lines of a text, with its numbers by these rules.
+    pub(crate) fn new(text: &'a [u8], rules: Rules) -> Lines<'a> {
         Lines {
             rest: text,
             number: 0,
+            rules,
         }
     }
 
@@ -65,7 +123,8 @@ impl<'a> Lines<'a> {
                 return Err(self.refuse(3));
             }
             if !is_blank_line(line) && !line.starts_with(b"%") {
-                return words(line).and_then(naturals).ok_or(self.refuse(3));
+                let sizes = words(line).and_then(|words| self.rules.naturals(words));
+                return sizes.ok_or(self.refuse(3));
             }
         }
         Err(self.refuse_missing(3))
@@ -139,7 +198,7 @@ fn header(line: &[u8]) -> Option<Header> {
 }
 
 /// Whether a byte is a blank: a space or a tab.
-fn is_blank(byte: u8) -> bool {
+pub(crate) fn is_blank(byte: u8) -> bool {
     byte == b' ' || byte == b'\t'
 }
 
@@ -161,40 +220,4 @@ fn words<const COUNT: usize>(line: &[u8]) -> Option<[&[u8]; COUNT]> {
         Some(_) => None,
         None => Some(out),
     }
-}
-
-/// A size or an index: 1 to 9 digits.
-pub(crate) fn natural(word: &[u8]) -> Option<u32> {
-    if word.is_empty() || word.len() > 9 {
-        return None;
-    }
-    let mut value = 0;
-    for &byte in word {
-        if !byte.is_ascii_digit() {
-            return None;
-        }
-        value = 10 * value + u32::from(byte - b'0');
-    }
-    Some(value)
-}
-
-/// Sizes or indices, each 1 to 9 digits.
-pub(crate) fn naturals<const COUNT: usize>(words: [&[u8]; COUNT]) -> Option<[u32; COUNT]> {
-    let mut out = [0; COUNT];
-    for (value, word) in out.iter_mut().zip(words) {
-        *value = natural(word)?;
-    }
-    Some(out)
-}
-
-/// A whole number as a weight is written: an optional + or - and 1 to 9
-/// digits.
-pub(crate) fn integer(word: &[u8]) -> Option<i32> {
-    let (negative, digits) = match word {
-        [b'-', digits @ ..] => (true, digits),
-        [b'+', digits @ ..] => (false, digits),
-        digits => (false, digits),
-    };
-    let value = natural(digits)? as i32;
-    Some(if negative { -value } else { value })
 }

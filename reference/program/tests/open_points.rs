@@ -16,7 +16,7 @@ fn point_1_number_sizes() {
             assert_eq!(numbers_of(&text, 4, what), Err(refusal(4, 2)), "{line}");
         }
     }
-    let text = numbers("0004 01\n1\n2\n3\n4\n");
+    let text = numbers("4 1\n1\n2\n3\n4\n");
     assert_eq!(numbers_of(&text, 4, What::Bounds), Ok(vec![1, 2, 3, 4]));
 }
 
@@ -134,24 +134,23 @@ fn point_6_numbers() {
         let graph = read(&format!("1 1 1\n1 1 {word}\n"))?;
         Ok(graph.weight[0])
     };
-    for zero in ["0", "-0", "+0", "-000", "000000000", "+000000000"] {
-        assert_eq!(weight(zero), Ok(0), "{zero}");
+    for value in [0, 7, -7, 10, 1_000_000, -1_000_000] {
+        assert_eq!(weight(&value.to_string()), Ok(value));
     }
-    assert_eq!(weight("-000000007"), Ok(-7));
-    assert_eq!(weight("+7"), Ok(7));
-    for word in ["0000000007", "+0000000000", "+", "-", "--7", "+-7", "7-"] {
+    for word in ["+", "-", "--7", "+-7", "-+7", "7-", "7+", "1e2", "7.0"] {
         assert_eq!(weight(word), Err(refusal(5, 3)), "{word}");
     }
-    assert_eq!(weight("999999999"), Err(refusal(7, 3)));
-    // Sizes and indices: leading zeros, no sign, nine digits.
-    assert_eq!(read("000000001 01 1\n01 000000001 5"), Ok(star(&[5])));
-    for line in ["0000000001 1 1", "+1 1 1", "1 1 -0"] {
-        assert_eq!(read(line), Err(refusal(3, 2)), "{line}");
+    for word in ["999999999", "-999999999"] {
+        assert_eq!(weight(word), Err(refusal(7, 3)), "{word}");
     }
-    for line in ["-1 1 5", "1 +1 5", "0000000001 1 5"] {
-        let found = read(&format!("1 1 1\n{line}"));
-        assert_eq!(found, Err(refusal(5, 3)), "{line}");
+    for word in ["1234567890", "-1234567890"] {
+        assert_eq!(weight(word), Err(refusal(5, 3)), "{word}");
     }
+    // A size or an index has no sign; a nine-digit one is well formed.
+    assert_eq!(read("1 1 -1"), Err(refusal(3, 2)));
+    assert_eq!(read("999999999 1 1"), Err(refusal(4, 2)));
+    assert_eq!(read("1 1 1\n-1 1 5"), Err(refusal(5, 3)));
+    assert_eq!(read("1 1 1\n1 999999999 5"), Err(refusal(6, 3)));
     let text = numbers("1 1\n-1\n");
     assert_eq!(numbers_of(&text, 1, What::Bounds), Err(refusal(10, 3)));
     assert_eq!(numbers_of(&text, 1, What::Prices), Err(refusal(13, 3)));

@@ -313,7 +313,7 @@ fn spoilt_texts_are_read_or_refused_whole() {
         ),
         sheet("symmetric", "3 3 3\n2 1 1\n3 1 1\n3 2 1"),
         plan("general", "2 2 2\n1 2\n2 1\n"),
-        numbers("4 1\n1\n64\n+0\n1\n"),
+        numbers("4 1\n1\n64\n0\n1\n"),
     ];
     let bytes = b"0123456789+-% \t\n\rxGg";
     let (mut taken, mut refused) = (0, 0);

@@ -9,16 +9,16 @@ use Rattle.graph_reader.proofs.edge_on.Tie as tie
 
 returns : tie.Need-returns
 returns c =
-    let edge-line = c .before .before .edge-line in
+    let edge-words = c .before .before .edge-words in
     let args = c .before .before .before .before .args in
-    (edge-bad (args .s) (words (now (args .line))) (edge-line .ensures) (c .enum-told .given .1), tt)
+    (edge-bad (args .rules) (args .field) (args .s) (words (now (args .line))) (edge-words .ensures) (c .enum-told .given .1), tt)
 
 returns-2 : tie.Need-returns-2
 returns-2 c =
     let at-row = c .before .before .before in
-    let at-edge-line = at-row .before .before in
-    let args = at-edge-line .before .before .args in (
-      ends-out (args .s) (words (now (args .line))) (at-edge-line .edge-line .ensures) (at-row .row .given .1) (c .before .ends-in-range .ensures)
+    let at-edge-words = at-row .before .before in
+    let args = at-edge-words .before .before .args in (
+      ends-out (args .rules) (args .field) (args .s) (words (now (args .line))) (at-edge-words .edge-words .ensures) (at-row .row .given .1) (c .before .ends-in-range .ensures)
           (not-true _ (c .if1 .taken)),
       tt,
     )
@@ -28,11 +28,11 @@ returns-3 c =
     let if1 = c .before .before .if1 in
     let at-ends-in-range = c .before .before .before in
     let at-row = at-ends-in-range .before .before in
-    let at-edge-line = at-row .before .before in
-    let args = at-edge-line .before .before .args in (
-      weight-out (args .s) (words (now (args .line))) (at-edge-line .edge-line .ensures) (at-row .row .given .1)
+    let at-edge-words = at-row .before .before in
+    let args = at-edge-words .before .before .args in (
+      weight-out (args .rules) (args .field) (args .s) (words (now (args .line))) (at-edge-words .edge-words .ensures) (at-row .row .given .1)
           (at-ends-in-range .ends-in-range .ensures) (not-false _ (if1 .left)) (c .before .weight-in-range .ensures)
-          (edge-back (args .s) (words (now (args .line))) (at-edge-line .edge-line .ensures) (at-row .row .given .1)) (not-true _ (c .if2 .taken)),
+          (edge-back (args .rules) (args .field) (args .s) (words (now (args .line))) (at-edge-words .edge-words .ensures) (at-row .row .given .1)) (not-true _ (c .if2 .taken)),
       tt,
     )
 
@@ -41,11 +41,11 @@ returns-4 c =
     let if1 = c .before .before .if1 in
     let at-ends-in-range = c .before .before .before in
     let at-row = at-ends-in-range .before .before in
-    let at-edge-line = at-row .before .before in
-    let args = at-edge-line .before .before .args in
-    edge-in (args .s) (words (now (args .line))) (at-edge-line .edge-line .ensures) (at-row .row .given .1) (at-ends-in-range .ends-in-range .ensures)
+    let at-edge-words = at-row .before .before in
+    let args = at-edge-words .before .before .args in
+    edge-in (args .rules) (args .field) (args .s) (words (now (args .line))) (at-edge-words .edge-words .ensures) (at-row .row .given .1) (at-ends-in-range .ends-in-range .ensures)
     (not-false _ (if1 .left)) (c .before .weight-in-range .ensures)
-    (edge-back (args .s) (words (now (args .line))) (at-edge-line .edge-line .ensures) (at-row .row .given .1)) (not-false _ (c .if2 .left))
+    (edge-back (args .rules) (args .field) (args .s) (words (now (args .line))) (at-edge-words .edge-words .ensures) (at-row .row .given .1)) (not-false _ (c .if2 .left))
 
 pub edge-on-spec : {M : Type 1} → statement M
 edge-on-spec =

@@ -13,10 +13,11 @@ use Rattle.graph_reader.proofs.read_edges.Statement.{statement}
 use Rattle.graph_reader.proofs.read_edges.Tie as tie
 
 abbrev Inv-loop : tie.InvT-loop
-Inv-loop text s row₀ column₀ weight₀ seen₀ c₀ i₀ row column weight seen c i = EdgeTurn s text (length row₀) (length column₀) (length weight₀) row column weight seen c i
+Inv-loop text rules field s row₀ column₀ weight₀ seen₀ c₀ i₀ row column weight seen c i =
+    EdgeTurn rules field s text (length row₀) (length column₀) (length weight₀) row column weight seen c i
 
 abbrev μ-loop : tie.MeasureT-loop
-μ-loop text s row₀ column₀ weight₀ seen₀ c₀ i₀ row column weight seen c i = length text + 1 - c .at
+μ-loop text rules field s row₀ column₀ weight₀ seen₀ c₀ i₀ row column weight seen c i = length text + 1 - c .at
 
 loop-holds : tie.Need-loop-holds Inv-loop μ-loop
 loop-holds c =

@@ -10,33 +10,35 @@ use borrow.Author.Needs.{needs}
 use Rattle.graph_reader.proofs.read_lines.Statement.{statement}
 use Rattle.graph_reader.proofs.read_lines.Tie as tie
 
-sub-header-kind : tie.Need-sub-header-kind
-sub-header-kind c =
+sub-header-on : tie.Need-sub-header-on
+sub-header-on c =
     let header-line = c .before .before .before .header-line in
     opened-line (header-line .ensures) (c .before .start .given .1) .forward
 
-part-header-kind-start : tie.Need-part-header-kind-start
-part-header-kind-start c =
+part-header-on-start : tie.Need-part-header-on-start
+part-header-on-start c =
     let header-line = c .before .before .before .header-line in
     opened-line (header-line .ensures) (c .before .start .given .1) .forward
 
-part-header-kind-end : tie.Need-part-header-kind-end
-part-header-kind-end c =
+part-header-on-end : tie.Need-part-header-on-end
+part-header-on-end c =
     let header-line = c .before .before .before .header-line in
     opened-line (header-line .ensures) (c .before .start .given .1) .ends
 
 returns : tie.Need-returns
 returns c =
-    let at-header-kind = c .before .before .before in
-    let at-start = at-header-kind .before .before .before .before in
-    let header-line = at-start .before .before .header-line in
+    let at-header-on = c .before .before .before in
+    let at-start = at-header-on .before .before .before in
+    let at-header-line = at-start .before .before in
+    let args = at-header-line .before .before .before .before .args in
+    let L = graphLayout (args .rules) (args .field) in
     read-refused _
-    (header-stops graphLayout (header-line .ensures) (at-start .start .given .1) Header
-    (header-not _ (at-header-kind .header-kind .ensures) (c .before .enum-told .given .1)) (c .refused-at .ensures))
+    (header-stops L (at-header-line .header-line .ensures) (at-start .start .given .1) Header
+    (header-not (args .field) _ (at-header-on .header-on .ensures) (c .before .enum-told .given .1)) (c .refused-at .ensures))
 
 size-line-requires : tie.Need-size-line-requires
 size-line-requires c κs =
-    let at-start = c .before .before .before .before .before .before .before in
+    let at-start = c .before .before .before .before .before .before in
     let header-line = at-start .before .before .header-line in
     opened-line (header-line .ensures) (at-start .start .given .1) .reached
 
@@ -62,32 +64,37 @@ read-edges-requires c κs =
     let at-start2 = at-size-on .before .before .before in
     let at-size-line = at-start2 .before .before in
     let at-kind = at-size-line .before .before in
-    let at-header-kind = at-kind .before .before in
-    let at-start = at-header-kind .before .before .before .before in
+    let at-header-on = at-kind .before .before in
+    let at-start = at-header-on .before .before .before in
     let at-header-line = at-start .before .before in
-    let pre = at-header-line .before .before .before .before .pre in
-    let w = header-goes graphLayout (at-header-line .header-line .ensures) (at-start .start .given .1) _
-    (header-is _ (at-header-kind .header-kind .ensures) (at-kind .kind .given .1)) in (
-      size-goes graphLayout w (at-size-line .size-line .ensures) (at-start2 .start2 .given .1) _
+    let start = at-header-line .before .before .before .before in
+    let L = graphLayout (start .args .rules) (start .args .field) in
+    let w = header-goes L (at-header-line .header-line .ensures) (at-start .start .given .1) _
+    (header-is (start .args .field) _ (at-header-on .header-on .ensures) (at-kind .kind .given .1)) in (
+      size-goes L w (at-size-line .size-line .ensures) (at-start2 .start2 .given .1) _
           (sym (at-size-on .size-on .ensures .0) ∙ ap shapeSays (at-s .s .given .1)),
-      (subst ShapeInRange (at-s .s .given .1) (at-size-on .size-on .ensures .1), pre),
+      (subst ShapeInRange (at-s .s .given .1) (at-size-on .size-on .ensures .1), start .pre),
     )
 
 returns-2 : tie.Need-returns-2
 returns-2 c =
-    let header-line = c .before .before .before .header-line in
-    read-refused _ (header-refused graphLayout (header-line .ensures) (c .before .r .given .1))
+    let at-header-line = c .before .before .before in
+    let args = at-header-line .before .before .before .before .args in
+    let L = graphLayout (args .rules) (args .field) in
+    read-refused _ (header-refused L (at-header-line .header-line .ensures) (c .before .r .given .1))
 
 returns-3 : tie.Need-returns-3
 returns-3 c =
     let at-size-line = c .before .before .before in
     let at-kind = at-size-line .before .before in
-    let at-header-kind = at-kind .before .before in
-    let at-start = at-header-kind .before .before .before .before in
-    let header-line = at-start .before .before .header-line in
-    let w = header-goes graphLayout (header-line .ensures) (at-start .start .given .1) _
-    (header-is _ (at-header-kind .header-kind .ensures) (at-kind .kind .given .1)) in
-    read-refused _ (size-refused graphLayout w (at-size-line .size-line .ensures) (c .before .r2 .given .1))
+    let at-header-on = at-kind .before .before in
+    let at-start = at-header-on .before .before .before in
+    let at-header-line = at-start .before .before in
+    let args = at-header-line .before .before .before .before .args in
+    let L = graphLayout (args .rules) (args .field) in
+    let w = header-goes L (at-header-line .header-line .ensures) (at-start .start .given .1) _
+    (header-is (args .field) _ (at-header-on .header-on .ensures) (at-kind .kind .given .1)) in
+    read-refused _ (size-refused L w (at-size-line .size-line .ensures) (c .before .r2 .given .1))
 
 returns-4 : tie.Need-returns-4
 returns-4 c =
@@ -96,13 +103,15 @@ returns-4 c =
     let at-start2 = at-size-on .before .before .before in
     let at-size-line = at-start2 .before .before in
     let at-kind = at-size-line .before .before in
-    let at-header-kind = at-kind .before .before in
-    let at-start = at-header-kind .before .before .before .before in
-    let header-line = at-start .before .before .header-line in
-    let w = header-goes graphLayout (header-line .ensures) (at-start .start .given .1) _
-    (header-is _ (at-header-kind .header-kind .ensures) (at-kind .kind .given .1)) in
+    let at-header-on = at-kind .before .before in
+    let at-start = at-header-on .before .before .before in
+    let at-header-line = at-start .before .before in
+    let args = at-header-line .before .before .before .before .args in
+    let L = graphLayout (args .rules) (args .field) in
+    let w = header-goes L (at-header-line .header-line .ensures) (at-start .start .given .1) _
+    (header-is (args .field) _ (at-header-on .header-on .ensures) (at-kind .kind .given .1)) in
     read-refused _
-    (size-stops graphLayout w (at-size-line .size-line .ensures) (at-start2 .start2 .given .1) _
+    (size-stops L w (at-size-line .size-line .ensures) (at-start2 .start2 .given .1) _
     (sym (at-size-on .size-on .ensures .0) ∙ ap shapeSays (fault .given .1)) (c .refused-at2 .ensures))
 
 pub read-lines-spec : {M : Type 1} → statement M
@@ -112,10 +121,9 @@ read-lines-spec =
     (λ c κs. search needs)
     (λ c. search needs)
     (λ c. search needs)
-    sub-header-kind
-    part-header-kind-start
-    part-header-kind-end
-    (λ c. search needs)
+    sub-header-on
+    part-header-on-start
+    part-header-on-end
     (λ c κs. search needs)
     (λ c. search needs)
     (λ c. search needs)

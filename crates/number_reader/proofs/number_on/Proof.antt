@@ -9,15 +9,15 @@ use Rattle.number_reader.proofs.number_on.Statement.{statement}
 use Rattle.number_reader.proofs.number_on.Tie as tie
 
 returns : tie.Need-returns
-returns c = (number-bad _ _ (c .before .before .one-integer .ensures) (c .enum-told .given .1), tt)
+returns c = (number-bad _ _ _ (c .before .before .one-integer .ensures) (c .enum-told .given .1), tt)
 
 returns-2 : tie.Need-returns-2
 returns-2 c =
     let at-z = c .before .before .before in
     let at-one-integer = at-z .before .before in
     let args = at-one-integer .before .before .args in
-    number-in _ (words (now (args .line))) (at-one-integer .one-integer .ensures) (at-z .z .given .1) (c .before .in-range .ensures)
-    (number-back (args .what) (words (now (args .line))) (at-one-integer .one-integer .ensures) (at-z .z .given .1)) (c .if1 .taken)
+    number-in _ _ (words (now (args .line))) (at-one-integer .one-integer .ensures) (at-z .z .given .1) (c .before .in-range .ensures)
+    (number-back (args .rules) (args .what) (words (now (args .line))) (at-one-integer .one-integer .ensures) (at-z .z .given .1)) (c .if1 .taken)
 
 returns-3 : tie.Need-returns-3
 returns-3 c =
@@ -26,8 +26,8 @@ returns-3 c =
     let at-one-integer = at-z .before .before in
     let args = at-one-integer .before .before .args in (
       (λ zs. ap stops (c .outside .ensures)
-          ∙ number-out _ (words (now (args .line))) (at-one-integer .one-integer .ensures) (at-z .z .given .1) (in-range .ensures)
-          (number-back (args .what) (words (now (args .line))) (at-one-integer .one-integer .ensures) (at-z .z .given .1)) (c .before .if1 .left) zs),
+          ∙ number-out _ _ (words (now (args .line))) (at-one-integer .one-integer .ensures) (at-z .z .given .1) (in-range .ensures)
+          (number-back (args .rules) (args .what) (words (now (args .line))) (at-one-integer .one-integer .ensures) (at-z .z .given .1)) (c .before .if1 .left) zs),
       tt,
     )
 

@@ -32,7 +32,7 @@ returns c =
     let at-start = c .before .before .before .before .before .before .before .before .before in
     let at-header-line = at-start .before .before in
     let args = at-header-line .before .before .args in
-    let L = numberLayout (args .what) (args .count) in
+    let L = numberLayout (args .rules) (args .what) (args .count) in
     read-refused _
     (header-stops L (at-header-line .header-line .ensures) (at-start .start .given .1) Header
     (header-wrong _ (is-header .ensures) (c .before .if1 .taken)) (c .refused-at .ensures))
@@ -68,7 +68,7 @@ read-values-requires c κs =
     let at-start = at-is-header .before .before .before .before .before .before .before in
     let at-header-line = at-start .before .before in
     let start = at-header-line .before .before in
-    let L = numberLayout (start .args .what) (start .args .count) in
+    let L = numberLayout (start .args .rules) (start .args .what) (start .args .count) in
     let w = header-goes L (at-header-line .header-line .ensures) (at-start .start .given .1) tt
     (header-right _ (at-is-header .is-header .ensures) (at-if1 .if1 .left)) in (
       size-goes L w (at-size-line .size-line .ensures) (at-start2 .start2 .given .1) []
@@ -80,7 +80,7 @@ returns-2 : tie.Need-returns-2
 returns-2 c =
     let at-header-line = c .before .before .before in
     let args = at-header-line .before .before .args in
-    let L = numberLayout (args .what) (args .count) in read-refused _ (header-refused L (at-header-line .header-line .ensures) (c .before .r .given .1))
+    let L = numberLayout (args .rules) (args .what) (args .count) in read-refused _ (header-refused L (at-header-line .header-line .ensures) (c .before .r .given .1))
 
 returns-3 : tie.Need-returns-3
 returns-3 c =
@@ -90,7 +90,7 @@ returns-3 c =
     let at-start = at-is-header .before .before .before .before .before .before .before in
     let at-header-line = at-start .before .before in
     let args = at-header-line .before .before .args in
-    let L = numberLayout (args .what) (args .count) in
+    let L = numberLayout (args .rules) (args .what) (args .count) in
     let w = header-goes L (at-header-line .header-line .ensures) (at-start .start .given .1) tt
     (header-right _ (at-is-header .is-header .ensures) (at-if1 .if1 .left)) in
     read-refused _ (size-refused L w (at-size-line .size-line .ensures) (c .before .r2 .given .1))
@@ -106,7 +106,7 @@ returns-4 c =
     let at-start = at-is-header .before .before .before .before .before .before .before in
     let at-header-line = at-start .before .before in
     let args = at-header-line .before .before .args in
-    let L = numberLayout (args .what) (args .count) in
+    let L = numberLayout (args .rules) (args .what) (args .count) in
     let w = header-goes L (at-header-line .header-line .ensures) (at-start .start .given .1) tt
     (header-right _ (at-is-header .is-header .ensures) (at-if1 .if1 .left)) in
     read-refused _

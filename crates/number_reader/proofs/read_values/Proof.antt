@@ -9,10 +9,10 @@ use Rattle.number_reader.proofs.read_values.Statement.{statement}
 use Rattle.number_reader.proofs.read_values.Tie as tie
 
 abbrev Inv-loop : tie.InvT-loop
-Inv-loop text what count out₀ c₀ i₀ out c i = NumberTurn what count text (length out₀) out c i
+Inv-loop text rules what count out₀ c₀ i₀ out c i = NumberTurn rules what count text (length out₀) out c i
 
 abbrev μ-loop : tie.MeasureT-loop
-μ-loop text what count out₀ c₀ i₀ out c i = length text + 1 - c .at
+μ-loop text rules what count out₀ c₀ i₀ out c i = length text + 1 - c .at
 
 loop-holds : tie.Need-loop-holds Inv-loop μ-loop
 loop-holds c =

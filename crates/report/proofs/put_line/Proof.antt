@@ -5,9 +5,9 @@ use native.Mathlib.Omega.{arith}
 use borrow.Author.Needs.{needs}
 use denote.Ref.{now}
 use lib.ListN.{take, length-set}
-use Rattle.layout.specs.Text.{bytes}
+use Rattle.layout.specs.Text.{bytes, signed}
 use Rattle.dual.specs.declared.Measures.{Measures}
-use Rattle.report.specs.Report.{signed, measuredLine}
+use Rattle.report.specs.Report.{measuredLine}
 use Rattle.report.proofs.Parts.{Words, first-number, next-number, line-put}
 use Rattle.report.proofs.put_line.Statement.{statement}
 use Rattle.report.proofs.put_line.Tie as tie

@@ -5,6 +5,7 @@ use lib.ListN.{length, length-replicate}
 use denote.Ref.{now}
 use Rattle.graph.specs.declared.Fault.the-variants.{Header, Disagreement}
 use Rattle.graph.specs.Graph.{Graph, graphOf}
+use Rattle.layout.specs.declared.Rules.the-variants.{New}
 use Rattle.layout.specs.SubgraphText.{subgraphLayout}
 use Rattle.lines.proofs.Walk.{opened-line, header-refused, header-goes, header-stops, size-refused, size-goes, size-stops}
 use Rattle.subgraph_reader.proofs.OnLine.{header-not, header-agrees, header-differs, size-says}
@@ -40,7 +41,7 @@ returns c =
     let start = at-header-line .before .before .before .before .before in
     let g = graph start in
     read-refused g _
-    (header-stops (subgraphLayout g) (at-header-line .header-line .ensures) (at-start .start .given .1) Header
+    (header-stops (subgraphLayout New g) (at-header-line .header-line .ensures) (at-start .start .given .1) Header
     (header-not g (at-header-kind .header-kind .ensures) (c .before .enum-told .given .1)) (c .refused-at .ensures))
 
 returns-2 : tie.Need-returns-2
@@ -53,7 +54,7 @@ returns-2 c =
     let start = at-header-line .before .before .before .before .before in
     let g = graph start in
     read-refused g _
-    (header-stops (subgraphLayout g) (at-header-line .header-line .ensures) (at-start .start .given .1) Disagreement
+    (header-stops (subgraphLayout New g) (at-header-line .header-line .ensures) (at-start .start .given .1) Disagreement
     (header-differs g (at-header-kind .header-kind .ensures) (at-kind .kind .given .1) (same-kind .ensures) (c .before .if1 .taken))
     (c .refused-at2 .ensures))
 
@@ -92,11 +93,11 @@ read-edges-requires c κs =
     let at-header-line = at-start .before .before in
     let start = at-header-line .before .before .before .before .before in
     let g = graph start in
-    let w = header-goes (subgraphLayout g) (at-header-line .header-line .ensures) (at-start .start .given .1) tt
+    let w = header-goes (subgraphLayout New g) (at-header-line .header-line .ensures) (at-start .start .given .1) tt
     (header-agrees g (at-header-kind .header-kind .ensures) (at-kind .kind .given .1) (at-same-kind .same-kind .ensures) (at-if1 .if1 .left)) in
     let z = start .pre .1 in (
       rw z
-          (size-goes (subgraphLayout g) w (at-size-line .size-line .ensures) (at-start2 .start2 .given .1) _
+          (size-goes (subgraphLayout New g) w (at-size-line .size-line .ensures) (at-start2 .start2 .given .1) _
           (size-says (start .args .s) (now (start .args .row)) (now (start .args .column)) _ (at-size-on .size-on .ensures) _ (count .given .1))),
       (start .pre .0 .0, start .pre .0 .1, ap length z ∙ length-replicate (start .args .s .edges) 0),
     )
@@ -105,7 +106,7 @@ returns-3 : tie.Need-returns-3
 returns-3 c =
     let at-header-line = c .before .before .before in
     let start = at-header-line .before .before .before .before .before in
-    let g = graph start in read-refused g _ (header-refused (subgraphLayout g) (at-header-line .header-line .ensures) (c .before .r .given .1))
+    let g = graph start in read-refused g _ (header-refused (subgraphLayout New g) (at-header-line .header-line .ensures) (c .before .r .given .1))
 
 returns-4 : tie.Need-returns-4
 returns-4 c =
@@ -118,9 +119,9 @@ returns-4 c =
     let at-header-line = at-start .before .before in
     let start = at-header-line .before .before .before .before .before in
     let g = graph start in
-    let w = header-goes (subgraphLayout g) (at-header-line .header-line .ensures) (at-start .start .given .1) tt
+    let w = header-goes (subgraphLayout New g) (at-header-line .header-line .ensures) (at-start .start .given .1) tt
     (header-agrees g (at-header-kind .header-kind .ensures) (at-kind .kind .given .1) (at-same-kind .same-kind .ensures) (at-if1 .if1 .left)) in
-    read-refused g _ (size-refused (subgraphLayout g) w (at-size-line .size-line .ensures) (c .before .r2 .given .1))
+    read-refused g _ (size-refused (subgraphLayout New g) w (at-size-line .size-line .ensures) (c .before .r2 .given .1))
 
 returns-5 : tie.Need-returns-5
 returns-5 c =
@@ -136,10 +137,10 @@ returns-5 c =
     let at-header-line = at-start .before .before in
     let start = at-header-line .before .before .before .before .before in
     let g = graph start in
-    let w = header-goes (subgraphLayout g) (at-header-line .header-line .ensures) (at-start .start .given .1) tt
+    let w = header-goes (subgraphLayout New g) (at-header-line .header-line .ensures) (at-start .start .given .1) tt
     (header-agrees g (at-header-kind .header-kind .ensures) (at-kind .kind .given .1) (at-same-kind .same-kind .ensures) (at-if1 .if1 .left)) in
     read-refused g _
-    (size-stops (subgraphLayout g) w (at-size-line .size-line .ensures) (at-start2 .start2 .given .1) _
+    (size-stops (subgraphLayout New g) w (at-size-line .size-line .ensures) (at-start2 .start2 .given .1) _
     (size-says (start .args .s) (now (start .args .row)) (now (start .args .column)) _ (at-size-on .size-on .ensures) _ (fault .given .1))
     (c .refused-at3 .ensures))
 

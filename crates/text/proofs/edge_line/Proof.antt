@@ -17,14 +17,14 @@ returns c =
     let next-natural = c .before .before .next-natural in
     let args = c .before .before .before .before .args in
     sym
-    (three-bad natural natural integer _
-    (spoilt natural (now (args .line)) (record { at = 0; line = 0 }) (sym (ap nextNaturalSays (c .enum-told .given .1)) ∙ next-natural .ensures)))
+    (three-bad (natural (args .rules)) (natural (args .rules)) (integer (args .rules)) _
+    (spoilt (natural (args .rules)) (now (args .line)) (record { at = 0; line = 0 }) (sym (ap nextNaturalSays (c .enum-told .given .1)) ∙ next-natural .ensures)))
 
 next-natural-requires-2 : tie.Need-next-natural-requires-2
 next-natural-requires-2 c κs =
     let at-next-natural = c .before .before .before in
     let args = at-next-natural .before .before .args in
-    (took natural (now (args .line)) (record { at = 0; line = 0 }) natural-nil (search needs) _ _
+    (took (natural (args .rules)) (now (args .line)) (record { at = 0; line = 0 }) (natural-nil (args .rules)) (search needs) _ _
     (sym (ap nextNaturalSays (c .before .row .given .1)) ∙ at-next-natural .next-natural .ensures)) .inside
 
 returns-2 : tie.Need-returns-2
@@ -34,10 +34,10 @@ returns-2 c =
     let at-next-natural = at-row .before .before in
     let args = at-next-natural .before .before .args in
     sym
-    (three-second natural natural integer (now (args .line)) _ _
-    (took natural (now (args .line)) (record { at = 0; line = 0 }) natural-nil (search needs) _ _
+    (three-second (natural (args .rules)) (natural (args .rules)) (integer (args .rules)) (now (args .line)) _ _
+    (took (natural (args .rules)) (now (args .line)) (record { at = 0; line = 0 }) (natural-nil (args .rules)) (search needs) _ _
     (sym (ap nextNaturalSays (at-row .row .given .1)) ∙ at-next-natural .next-natural .ensures))
-    (spoilt natural (now (args .line)) _ (sym (ap nextNaturalSays (c .enum-told2 .given .1)) ∙ next-natural2 .ensures)))
+    (spoilt (natural (args .rules)) (now (args .line)) _ (sym (ap nextNaturalSays (c .enum-told2 .given .1)) ∙ next-natural2 .ensures)))
 
 last-integer-requires : tie.Need-last-integer-requires
 last-integer-requires c κs =
@@ -45,8 +45,8 @@ last-integer-requires c κs =
     let at-row = at-next-natural2 .before .before in
     let at-next-natural = at-row .before .before in
     let args = at-next-natural .before .before .args in
-    (took natural (now (args .line)) _ natural-nil
-    ((took natural (now (args .line)) (record { at = 0; line = 0 }) natural-nil (search needs) _ _
+    (took (natural (args .rules)) (now (args .line)) _ (natural-nil (args .rules))
+    ((took (natural (args .rules)) (now (args .line)) (record { at = 0; line = 0 }) (natural-nil (args .rules)) (search needs) _ _
     (sym (ap nextNaturalSays (at-row .row .given .1)) ∙ at-next-natural .next-natural .ensures)) .inside) _ _
     (sym (ap nextNaturalSays (c .before .column .given .1)) ∙ at-next-natural2 .next-natural2 .ensures)) .inside
 
@@ -58,11 +58,11 @@ returns-3 c =
     let at-row = at-next-natural2 .before .before in
     let at-next-natural = at-row .before .before in
     let args = at-next-natural .before .before .args in
-    three-last natural natural integer (now (args .line)) _ _
-    (took natural (now (args .line)) (record { at = 0; line = 0 }) natural-nil (search needs) _ _
+    three-last (natural (args .rules)) (natural (args .rules)) (integer (args .rules)) (now (args .line)) _ _
+    (took (natural (args .rules)) (now (args .line)) (record { at = 0; line = 0 }) (natural-nil (args .rules)) (search needs) _ _
     (sym (ap nextNaturalSays (at-row .row .given .1)) ∙ at-next-natural .next-natural .ensures)) _ _
-    (took natural (now (args .line)) _ natural-nil
-    ((took natural (now (args .line)) (record { at = 0; line = 0 }) natural-nil (search needs) _ _
+    (took (natural (args .rules)) (now (args .line)) _ (natural-nil (args .rules))
+    ((took (natural (args .rules)) (now (args .line)) (record { at = 0; line = 0 }) (natural-nil (args .rules)) (search needs) _ _
     (sym (ap nextNaturalSays (at-row .row .given .1)) ∙ at-next-natural .next-natural .ensures)) .inside) _ _
     (sym (ap nextNaturalSays (at-column .column .given .1)) ∙ at-next-natural2 .next-natural2 .ensures)) none
     (sym (ap integerSays (c .enum-told3 .given .1)) ∙ last-integer .ensures)
@@ -76,12 +76,12 @@ returns-4 c =
     let at-row = at-next-natural2 .before .before in
     let at-next-natural = at-row .before .before in
     let args = at-next-natural .before .before .args in
-    rw (toZ-ofZ {w = w32} (one-fits _ _ (sym (sym (ap integerSays (weight .given .1)) ∙ at-last-integer .last-integer .ensures))))
-    (three-last natural natural integer (now (args .line)) _ _
-    (took natural (now (args .line)) (record { at = 0; line = 0 }) natural-nil (search needs) _ _
+    rw (toZ-ofZ {w = w32} (one-fits (args .rules) _ _ (sym (sym (ap integerSays (weight .given .1)) ∙ at-last-integer .last-integer .ensures))))
+    (three-last (natural (args .rules)) (natural (args .rules)) (integer (args .rules)) (now (args .line)) _ _
+    (took (natural (args .rules)) (now (args .line)) (record { at = 0; line = 0 }) (natural-nil (args .rules)) (search needs) _ _
     (sym (ap nextNaturalSays (at-row .row .given .1)) ∙ at-next-natural .next-natural .ensures)) _ _
-    (took natural (now (args .line)) _ natural-nil
-    ((took natural (now (args .line)) (record { at = 0; line = 0 }) natural-nil (search needs) _ _
+    (took (natural (args .rules)) (now (args .line)) _ (natural-nil (args .rules))
+    ((took (natural (args .rules)) (now (args .line)) (record { at = 0; line = 0 }) (natural-nil (args .rules)) (search needs) _ _
     (sym (ap nextNaturalSays (at-row .row .given .1)) ∙ at-next-natural .next-natural .ensures)) .inside) _ _
     (sym (ap nextNaturalSays (at-column .column .given .1)) ∙ at-next-natural2 .next-natural2 .ensures)) (some _)
     (sym (ap integerSays (weight .given .1)) ∙ at-last-integer .last-integer .ensures))

@@ -14,14 +14,14 @@ returns c =
     let next-natural = c .before .before .next-natural in
     let args = c .before .before .before .before .args in
     sym
-    (three-bad natural natural natural _
-    (spoilt natural (now (args .line)) (record { at = 0; line = 0 }) (sym (ap nextNaturalSays (c .enum-told .given .1)) ∙ next-natural .ensures)))
+    (three-bad (natural (args .rules)) (natural (args .rules)) (natural (args .rules)) _
+    (spoilt (natural (args .rules)) (now (args .line)) (record { at = 0; line = 0 }) (sym (ap nextNaturalSays (c .enum-told .given .1)) ∙ next-natural .ensures)))
 
 next-natural-requires-2 : tie.Need-next-natural-requires-2
 next-natural-requires-2 c κs =
     let at-next-natural = c .before .before .before in
     let args = at-next-natural .before .before .args in
-    (took natural (now (args .line)) (record { at = 0; line = 0 }) natural-nil (search needs) _ _
+    (took (natural (args .rules)) (now (args .line)) (record { at = 0; line = 0 }) (natural-nil (args .rules)) (search needs) _ _
     (sym (ap nextNaturalSays (c .before .a .given .1)) ∙ at-next-natural .next-natural .ensures)) .inside
 
 returns-2 : tie.Need-returns-2
@@ -31,10 +31,10 @@ returns-2 c =
     let at-next-natural = at-a .before .before in
     let args = at-next-natural .before .before .args in
     sym
-    (three-second natural natural natural (now (args .line)) _ _
-    (took natural (now (args .line)) (record { at = 0; line = 0 }) natural-nil (search needs) _ _
+    (three-second (natural (args .rules)) (natural (args .rules)) (natural (args .rules)) (now (args .line)) _ _
+    (took (natural (args .rules)) (now (args .line)) (record { at = 0; line = 0 }) (natural-nil (args .rules)) (search needs) _ _
     (sym (ap nextNaturalSays (at-a .a .given .1)) ∙ at-next-natural .next-natural .ensures))
-    (spoilt natural (now (args .line)) _ (sym (ap nextNaturalSays (c .enum-told2 .given .1)) ∙ next-natural2 .ensures)))
+    (spoilt (natural (args .rules)) (now (args .line)) _ (sym (ap nextNaturalSays (c .enum-told2 .given .1)) ∙ next-natural2 .ensures)))
 
 last-natural-requires : tie.Need-last-natural-requires
 last-natural-requires c κs =
@@ -42,8 +42,8 @@ last-natural-requires c κs =
     let at-a = at-next-natural2 .before .before in
     let at-next-natural = at-a .before .before in
     let args = at-next-natural .before .before .args in
-    (took natural (now (args .line)) _ natural-nil
-    ((took natural (now (args .line)) (record { at = 0; line = 0 }) natural-nil (search needs) _ _
+    (took (natural (args .rules)) (now (args .line)) _ (natural-nil (args .rules))
+    ((took (natural (args .rules)) (now (args .line)) (record { at = 0; line = 0 }) (natural-nil (args .rules)) (search needs) _ _
     (sym (ap nextNaturalSays (at-a .a .given .1)) ∙ at-next-natural .next-natural .ensures)) .inside) _ _
     (sym (ap nextNaturalSays (c .before .b .given .1)) ∙ at-next-natural2 .next-natural2 .ensures)) .inside
 
@@ -55,11 +55,11 @@ returns-3 c =
     let at-a = at-next-natural2 .before .before in
     let at-next-natural = at-a .before .before in
     let args = at-next-natural .before .before .args in
-    three-last natural natural natural (now (args .line)) _ _
-    (took natural (now (args .line)) (record { at = 0; line = 0 }) natural-nil (search needs) _ _
+    three-last (natural (args .rules)) (natural (args .rules)) (natural (args .rules)) (now (args .line)) _ _
+    (took (natural (args .rules)) (now (args .line)) (record { at = 0; line = 0 }) (natural-nil (args .rules)) (search needs) _ _
     (sym (ap nextNaturalSays (at-a .a .given .1)) ∙ at-next-natural .next-natural .ensures)) _ _
-    (took natural (now (args .line)) _ natural-nil
-    ((took natural (now (args .line)) (record { at = 0; line = 0 }) natural-nil (search needs) _ _
+    (took (natural (args .rules)) (now (args .line)) _ (natural-nil (args .rules))
+    ((took (natural (args .rules)) (now (args .line)) (record { at = 0; line = 0 }) (natural-nil (args .rules)) (search needs) _ _
     (sym (ap nextNaturalSays (at-a .a .given .1)) ∙ at-next-natural .next-natural .ensures)) .inside) _ _
     (sym (ap nextNaturalSays (at-b .b .given .1)) ∙ at-next-natural2 .next-natural2 .ensures)) none
     (sym (ap naturalSays (c .enum-told3 .given .1)) ∙ last-natural .ensures)
@@ -72,11 +72,11 @@ returns-4 c =
     let at-a = at-next-natural2 .before .before in
     let at-next-natural = at-a .before .before in
     let args = at-next-natural .before .before .args in
-    three-last natural natural natural (now (args .line)) _ _
-    (took natural (now (args .line)) (record { at = 0; line = 0 }) natural-nil (search needs) _ _
+    three-last (natural (args .rules)) (natural (args .rules)) (natural (args .rules)) (now (args .line)) _ _
+    (took (natural (args .rules)) (now (args .line)) (record { at = 0; line = 0 }) (natural-nil (args .rules)) (search needs) _ _
     (sym (ap nextNaturalSays (at-a .a .given .1)) ∙ at-next-natural .next-natural .ensures)) _ _
-    (took natural (now (args .line)) _ natural-nil
-    ((took natural (now (args .line)) (record { at = 0; line = 0 }) natural-nil (search needs) _ _
+    (took (natural (args .rules)) (now (args .line)) _ (natural-nil (args .rules))
+    ((took (natural (args .rules)) (now (args .line)) (record { at = 0; line = 0 }) (natural-nil (args .rules)) (search needs) _ _
     (sym (ap nextNaturalSays (at-a .a .given .1)) ∙ at-next-natural .next-natural .ensures)) .inside) _ _
     (sym (ap nextNaturalSays (at-b .b .given .1)) ∙ at-next-natural2 .next-natural2 .ensures)) (some _)
     (sym (ap naturalSays (c .before .c .given .1)) ∙ at-last-natural .last-natural .ensures)

@@ -14,14 +14,14 @@ returns c =
     let next-natural = c .before .before .next-natural in
     let args = c .before .before .before .before .args in
     sym
-    (two-bad natural natural _
-    (spoilt natural (now (args .line)) (record { at = 0; line = 0 }) (sym (ap nextNaturalSays (c .enum-told .given .1)) ∙ next-natural .ensures)))
+    (two-bad (natural (args .rules)) (natural (args .rules)) _
+    (spoilt (natural (args .rules)) (now (args .line)) (record { at = 0; line = 0 }) (sym (ap nextNaturalSays (c .enum-told .given .1)) ∙ next-natural .ensures)))
 
 last-natural-requires : tie.Need-last-natural-requires
 last-natural-requires c κs =
     let at-next-natural = c .before .before .before in
     let args = at-next-natural .before .before .args in
-    (took natural (now (args .line)) (record { at = 0; line = 0 }) natural-nil (search needs) _ _
+    (took (natural (args .rules)) (now (args .line)) (record { at = 0; line = 0 }) (natural-nil (args .rules)) (search needs) _ _
     (sym (ap nextNaturalSays (c .before .a .given .1)) ∙ at-next-natural .next-natural .ensures)) .inside
 
 returns-2 : tie.Need-returns-2
@@ -30,8 +30,8 @@ returns-2 c =
     let at-a = c .before .before .before .before in
     let at-next-natural = at-a .before .before in
     let args = at-next-natural .before .before .args in
-    two-last natural natural (now (args .line)) _ _
-    (took natural (now (args .line)) (record { at = 0; line = 0 }) natural-nil (search needs) _ _
+    two-last (natural (args .rules)) (natural (args .rules)) (now (args .line)) _ _
+    (took (natural (args .rules)) (now (args .line)) (record { at = 0; line = 0 }) (natural-nil (args .rules)) (search needs) _ _
     (sym (ap nextNaturalSays (at-a .a .given .1)) ∙ at-next-natural .next-natural .ensures)) none
     (sym (ap naturalSays (c .enum-told2 .given .1)) ∙ last-natural .ensures)
 
@@ -41,8 +41,8 @@ returns-3 c =
     let at-a = at-last-natural .before .before in
     let at-next-natural = at-a .before .before in
     let args = at-next-natural .before .before .args in
-    two-last natural natural (now (args .line)) _ _
-    (took natural (now (args .line)) (record { at = 0; line = 0 }) natural-nil (search needs) _ _
+    two-last (natural (args .rules)) (natural (args .rules)) (now (args .line)) _ _
+    (took (natural (args .rules)) (now (args .line)) (record { at = 0; line = 0 }) (natural-nil (args .rules)) (search needs) _ _
     (sym (ap nextNaturalSays (at-a .a .given .1)) ∙ at-next-natural .next-natural .ensures)) (some _)
     (sym (ap naturalSays (c .before .b .given .1)) ∙ at-last-natural .last-natural .ensures)
 

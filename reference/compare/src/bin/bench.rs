@@ -4,7 +4,8 @@ use compare::graphs::Lent;
 use compare::indexes::{Building, Testing};
 use compare::measures::Measuring;
 use compare::proved;
-use reference::{Kind, Random};
+use compare::readings::{ReadingNumbers, ReadingSubgraph};
+use reference::{Kind, Random, What};
 use std::hint::black_box;
 use std::time::Instant;
 
@@ -50,7 +51,27 @@ fn text(lent: &Lent) -> Vec<u8> {
     text.into_bytes()
 }
 
-fn readers() {
+fn number_text(numbers: &[i32]) -> Vec<u8> {
+    let header = "%%MatrixMarket matrix array integer general";
+    let mut text = format!("{header}\n{} 1\n", numbers.len());
+    for number in numbers {
+        text += &format!("{number}\n");
+    }
+    text.into_bytes()
+}
+
+/// The text of all edges of a bipartite graph.
+fn subgraph_text(lent: &Lent) -> Vec<u8> {
+    let header = "%%MatrixMarket matrix coordinate pattern general";
+    let (rows, columns, edges) = (lent.rows, lent.columns, lent.edges);
+    let mut text = format!("{header}\n{rows} {columns} {edges}\n");
+    for e in 0..lent.row.len() {
+        text += &format!("{} {}\n", lent.row[e], lent.column[e]);
+    }
+    text.into_bytes()
+}
+
+fn graph_readers() {
     for edges in [128, 256, 512, 1024] {
         let mut random = Random::new(1);
         let texts: Vec<_> = (0..101)
@@ -64,6 +85,55 @@ fn readers() {
             black_box(reference::read_graph(t, &mut out.0, &mut out.1, &mut out.2)).unwrap();
         });
         show(&format!("read a graph, {edges} edges"), ours, theirs);
+    }
+}
+
+fn number_readers() {
+    for (what, name, count, most) in [
+        (What::Bounds, "bounds", 128, 64),
+        (What::Prices, "prices", 1152, 2_000_000),
+    ] {
+        let mut random = Random::new(5);
+        let mut numbers = || {
+            (0..count)
+                .map(|_| random.between(0, most))
+                .collect::<Vec<_>>()
+        };
+        let texts: Vec<_> = (0..101).map(|_| number_text(&numbers())).collect();
+        let mut out = vec![0i32; count];
+        let [ours, theirs] = [
+            proved::read_numbers,
+            reference::read_numbers as ReadingNumbers,
+        ]
+        .map(|read| {
+            median(&texts, |text| {
+                out.fill(0);
+                black_box(read(text, count as u32, what, &mut out)).unwrap();
+            })
+        });
+        show(&format!("read {count} {name}"), ours, theirs);
+    }
+}
+
+fn subgraph_readers() {
+    for edges in [256, 1024] {
+        let mut random = Random::new(6);
+        let sheets = (0..101).map(|_| sheet(&mut random, 64, edges).0);
+        let inputs: Vec<_> = sheets.map(|lent| (subgraph_text(&lent), lent)).collect();
+        let mut out = vec![0u8; edges];
+        let reference: ReadingSubgraph =
+            |text, g, out| reference::read_subgraph(text, g, out).map(|_| ());
+        let [ours, theirs] = [proved::read_subgraph, reference].map(|read| {
+            median(&inputs, |(text, lent)| {
+                out.fill(0);
+                black_box(read(text, &lent.lend(), &mut out)).unwrap();
+            })
+        });
+        show(
+            &format!("read a subgraph, {edges} of {edges} edges"),
+            ours,
+            theirs,
+        );
     }
 }
 
@@ -177,7 +247,9 @@ fn solvers() {
 }
 
 fn main() {
-    readers();
+    graph_readers();
+    number_readers();
+    subgraph_readers();
     measures();
     indexes();
     solvers();

@@ -1,10 +1,11 @@
 //! Compares the proved calls with the separately written program.
 
 use compare::tally::finish;
-use compare::{indexes, measures, readers, solves};
+use compare::{indexes, measures, readers, solves, spellings};
 
 fn main() {
     let mut results = readers::compare(2_026, 60_000);
+    results.extend(spellings::compare(2_031, 400));
     results.extend(measures::compare(2_027, 120_000));
     results.extend(indexes::compare(2_030, 40_000));
     results.extend(solves::compare(2_028, 32_000));

@@ -1,8 +1,17 @@
-//! Compares the built programs `solve` and `mark` with the separately written program: `programs BIN_FOLDER [--valgrind]`.
+//! Compares the built programs `solve`, `mark` and `rewrite` with the separately written program: `programs BIN_FOLDER [--valgrind]`.
 
-use compare::programs::compare;
+use compare::runs::Built;
 use compare::tally::finish;
+use compare::{programs, rewrites};
+use std::io;
 use std::path::Path;
+
+fn compare(folder: &Path, valgrind: bool) -> io::Result<Vec<bool>> {
+    let built = Built::new(folder, valgrind)?;
+    let mut results = programs::compare(2_029, 3_000, &built)?;
+    results.extend(rewrites::compare(2_032, 4_000, &built)?);
+    Ok(results)
+}
 
 fn main() {
     let arguments: Vec<String> = std::env::args().skip(1).collect();
@@ -14,7 +23,7 @@ fn main() {
             std::process::exit(2);
         }
     };
-    match compare(2_029, 3_000, Path::new(folder), valgrind) {
+    match compare(Path::new(folder), valgrind) {
         Ok(results) => finish(&results),
         Err(error) => {
             eprintln!("the programs cannot be run: {error}");

@@ -15,13 +15,15 @@ returns : tie.Need-returns
 returns c =
     let next-integer = c .before .before .next-integer in
     let args = c .before .before .before .before .args in
-    sym (one-bad integer _ (spoilt integer (now (args .line)) (args .self) (sym (ap nextIntegerSays (c .enum-told .given .1)) ∙ next-integer .ensures)))
+    sym
+    (one-bad (integer (args .rules)) _
+    (spoilt (integer (args .rules)) (now (args .line)) (args .self) (sym (ap nextIntegerSays (c .enum-told .given .1)) ∙ next-integer .ensures)))
 
 no-words-requires : tie.Need-no-words-requires
 no-words-requires c κs =
     let at-next-integer = c .before .before .before in
     let start = at-next-integer .before .before in
-    (took integer (now (start .args .line)) (start .args .self) integer-nil (start .pre) _ _
+    (took (integer (start .args .rules)) (now (start .args .line)) (start .args .self) (integer-nil (start .args .rules)) (start .pre) _ _
     (sym (ap nextIntegerSays (c .before .value .given .1)) ∙ at-next-integer .next-integer .ensures)) .inside
 
 returns-2 : tie.Need-returns-2
@@ -31,11 +33,11 @@ returns-2 c =
     let start = at-next-integer .before .before in
     rw
     (toZ-ofZ {w = w32}
-    (integer-fits _ _
-    ((took integer (now (start .args .line)) (start .args .self) integer-nil (start .pre) _ _
+    (integer-fits (start .args .rules) _ _
+    ((took (integer (start .args .rules)) (now (start .args .line)) (start .args .self) (integer-nil (start .args .rules)) (start .pre) _ _
     (sym (ap nextIntegerSays (at-value .value .given .1)) ∙ at-next-integer .next-integer .ensures)) .value)))
-    (one-last integer (now (start .args .line)) _ _ _
-    (took integer (now (start .args .line)) (start .args .self) integer-nil (start .pre) _ _
+    (one-last (integer (start .args .rules)) (now (start .args .line)) _ _ _
+    (took (integer (start .args .rules)) (now (start .args .line)) (start .args .self) (integer-nil (start .args .rules)) (start .pre) _ _
     (sym (ap nextIntegerSays (at-value .value .given .1)) ∙ at-next-integer .next-integer .ensures)) _
     (sym (c .before .no-words .ensures) ∙ c .if1 .taken))
 
@@ -44,8 +46,8 @@ returns-3 c =
     let at-value = c .before .before .before in
     let at-next-integer = at-value .before .before in
     let start = at-next-integer .before .before in
-    one-last integer (now (start .args .line)) _ _ _
-    (took integer (now (start .args .line)) (start .args .self) integer-nil (start .pre) _ _
+    one-last (integer (start .args .rules)) (now (start .args .line)) _ _ _
+    (took (integer (start .args .rules)) (now (start .args .line)) (start .args .self) (integer-nil (start .args .rules)) (start .pre) _ _
     (sym (ap nextIntegerSays (at-value .value .given .1)) ∙ at-next-integer .next-integer .ensures)) _
     (sym (c .before .no-words .ensures) ∙ c .if1 .left)
 

@@ -12,13 +12,15 @@ returns : tie.Need-returns
 returns c =
     let next-natural = c .before .before .next-natural in
     let args = c .before .before .before .before .args in
-    sym (one-bad natural _ (spoilt natural (now (args .line)) (args .self) (sym (ap nextNaturalSays (c .enum-told .given .1)) ∙ next-natural .ensures)))
+    sym
+    (one-bad (natural (args .rules)) _
+    (spoilt (natural (args .rules)) (now (args .line)) (args .self) (sym (ap nextNaturalSays (c .enum-told .given .1)) ∙ next-natural .ensures)))
 
 no-words-requires : tie.Need-no-words-requires
 no-words-requires c κs =
     let at-next-natural = c .before .before .before in
     let start = at-next-natural .before .before in
-    (took natural (now (start .args .line)) (start .args .self) natural-nil (start .pre) _ _
+    (took (natural (start .args .rules)) (now (start .args .line)) (start .args .self) (natural-nil (start .args .rules)) (start .pre) _ _
     (sym (ap nextNaturalSays (c .before .value .given .1)) ∙ at-next-natural .next-natural .ensures)) .inside
 
 returns-2 : tie.Need-returns-2
@@ -26,8 +28,8 @@ returns-2 c =
     let at-value = c .before .before .before in
     let at-next-natural = at-value .before .before in
     let start = at-next-natural .before .before in
-    one-last natural (now (start .args .line)) _ _ _
-    (took natural (now (start .args .line)) (start .args .self) natural-nil (start .pre) _ _
+    one-last (natural (start .args .rules)) (now (start .args .line)) _ _ _
+    (took (natural (start .args .rules)) (now (start .args .line)) (start .args .self) (natural-nil (start .args .rules)) (start .pre) _ _
     (sym (ap nextNaturalSays (at-value .value .given .1)) ∙ at-next-natural .next-natural .ensures)) _
     (sym (c .before .no-words .ensures) ∙ c .if1 .taken)
 
@@ -36,8 +38,8 @@ returns-3 c =
     let at-value = c .before .before .before in
     let at-next-natural = at-value .before .before in
     let start = at-next-natural .before .before in
-    one-last natural (now (start .args .line)) _ _ _
-    (took natural (now (start .args .line)) (start .args .self) natural-nil (start .pre) _ _
+    one-last (natural (start .args .rules)) (now (start .args .line)) _ _ _
+    (took (natural (start .args .rules)) (now (start .args .line)) (start .args .self) (natural-nil (start .args .rules)) (start .pre) _ _
     (sym (ap nextNaturalSays (at-value .value .given .1)) ∙ at-next-natural .next-natural .ensures)) _
     (sym (c .before .no-words .ensures) ∙ c .if1 .left)
 

@@ -18,7 +18,7 @@ returns c =
     let at-word = c .before .before .before in
     let at-skip-blanks = at-word .before in
     let args = at-skip-blanks .before .before .args in
-    next-bad integer (now (args .line)) (args .self) _
+    next-bad (integer (args .rules)) (now (args .line)) (args .self) _
     (word-is (now (args .line)) (args .self .at) (at-skip-blanks .skip-blanks .ensures .0) (at-word .word .ensures .0))
     (sym (read-integer .ensures) ∙ ap integerSays (c .enum-told .given .1))
 
@@ -29,8 +29,8 @@ returns-2 c =
     let at-word = at-read-integer .before in
     let at-skip-blanks = at-word .before in
     let args = at-skip-blanks .before .before .args in
-    rw (toZ-ofZ {w = w32} (integer-fits _ _ (sym (at-read-integer .read-integer .ensures) ∙ ap integerSays (value .given .1))))
-    (next-is integer (now (args .line)) (args .self) _
+    rw (toZ-ofZ {w = w32} (integer-fits (args .rules) _ _ (sym (at-read-integer .read-integer .ensures) ∙ ap integerSays (value .given .1))))
+    (next-is (integer (args .rules)) (now (args .line)) (args .self) _
     (word-is (now (args .line)) (args .self .at) (at-skip-blanks .skip-blanks .ensures .0) (at-word .word .ensures .0)) _
     (sym (at-read-integer .read-integer .ensures) ∙ ap integerSays (value .given .1)) _
     (word-past (now (args .line)) (args .self .at) (at-skip-blanks .skip-blanks .ensures .0) (at-word .word .ensures .0)))

@@ -15,7 +15,7 @@ returns c =
     let at-word = c .before .before .before in
     let at-skip-blanks = at-word .before in
     let args = at-skip-blanks .before .before .args in
-    next-bad natural (now (args .line)) (args .self) _
+    next-bad (natural (args .rules)) (now (args .line)) (args .self) _
     (word-is (now (args .line)) (args .self .at) (at-skip-blanks .skip-blanks .ensures .0) (at-word .word .ensures .0))
     (sym (read-natural .ensures) ∙ ap naturalSays (c .enum-told .given .1))
 
@@ -25,7 +25,7 @@ returns-2 c =
     let at-word = at-read-natural .before in
     let at-skip-blanks = at-word .before in
     let args = at-skip-blanks .before .before .args in
-    next-is natural (now (args .line)) (args .self) _
+    next-is (natural (args .rules)) (now (args .line)) (args .self) _
     (word-is (now (args .line)) (args .self .at) (at-skip-blanks .skip-blanks .ensures .0) (at-word .word .ensures .0)) _
     (sym (at-read-natural .read-natural .ensures) ∙ ap naturalSays (c .before .value .given .1)) _
     (word-past (now (args .line)) (args .self .at) (at-skip-blanks .skip-blanks .ensures .0) (at-word .word .ensures .0))

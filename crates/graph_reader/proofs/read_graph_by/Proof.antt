@@ -1,12 +1,12 @@
--- `read_graph` clears its outputs, makes the tests, reads the lines, and clears its outputs again after a refusal.
+-- `read_graph_by` clears its outputs, makes the tests, reads the lines, and clears its outputs again after a refusal.
 use mathlib.Core.Path.{_∙_}
 use lib.ListN.{length}
 use denote.Ref.{now}
 use Rattle.graph_reader.proofs.Whole.{row-kept, column-kept, weight-kept, lengths-right, cleared-again, lent-cleared, whole-lent, whole-read}
 use Rattle.graph_reader.proofs.Whole.{whole-refused}
 use borrow.Author.Needs.{needs}
-use Rattle.graph_reader.proofs.read_graph.Statement.{statement}
-use Rattle.graph_reader.proofs.read_graph.Tie as tie
+use Rattle.graph_reader.proofs.read_graph_by.Statement.{statement}
+use Rattle.graph_reader.proofs.read_graph_by.Tie as tie
 
 read-lines-requires : tie.Need-read-lines-requires
 read-lines-requires c κs =
@@ -16,7 +16,7 @@ read-lines-requires c κs =
     let at-both = at-both2 .before in
     let at-clear = at-both .before .before .before .before .before .before in
     let args = at-clear .before .before .before .before .before .before .before .args in
-    lent-cleared (length (now (args .row))) (length (now (args .column))) (length (now (args .weight))) (now (args .text))
+    lent-cleared (args .rules) (args .field) (length (now (args .row))) (length (now (args .column))) (length (now (args .weight))) (now (args .text))
     (lengths-right (at-clear .clear .ensures) (at-both .both .ensures) (at-both2 .both2 .ensures)) _ (at-check-text .check-text .ensures)
     (at-enum-told .enum-told .given .1) (at-clear .clear .ensures)
 
@@ -27,7 +27,7 @@ returns c =
     let at-both = at-both2 .before in
     let at-clear = at-both .before .before .before .before .before .before in
     let args = at-clear .before .before .before .before .before .before .before .args in
-    whole-lent (length (now (args .row))) (length (now (args .column))) (length (now (args .weight))) (now (args .text))
+    whole-lent (args .rules) (args .field) (length (now (args .row))) (length (now (args .column))) (length (now (args .weight))) (now (args .text))
     (lengths-right (at-clear .clear .ensures) (at-both .both .ensures) (at-both2 .both2 .ensures)) _ (at-check-text .check-text .ensures)
     (c .before .r .given .1) (at-clear .clear .ensures)
 
@@ -40,7 +40,7 @@ returns-2 c =
     let at-both = at-both2 .before in
     let at-clear = at-both .before .before .before .before .before .before in
     let args = at-clear .before .before .before .before .before .before .before .args in
-    whole-read (length (now (args .row))) (length (now (args .column))) (length (now (args .weight))) (now (args .text))
+    whole-read (args .rules) (args .field) (length (now (args .row))) (length (now (args .column))) (length (now (args .weight))) (now (args .text))
     (lengths-right (at-clear .clear .ensures) (at-both .both .ensures) (at-both2 .both2 .ensures)) _ (at-check-text .check-text .ensures)
     (at-enum-told .enum-told .given .1) (at-read-lines .read-lines .ensures) (c .before .s .given .1)
 
@@ -55,15 +55,15 @@ returns-3 c =
     let at-both = at-both2 .before in
     let at-clear = at-both .before .before .before .before .before .before in
     let args = at-clear .before .before .before .before .before .before .before .args in
-    whole-refused (length (now (args .row))) (length (now (args .column))) (length (now (args .weight))) (now (args .text))
+    whole-refused (args .rules) (args .field) (length (now (args .row))) (length (now (args .column))) (length (now (args .weight))) (now (args .text))
     (lengths-right (at-clear .clear .ensures) (at-both .both .ensures) (at-both2 .both2 .ensures)) _ (at-check-text .check-text .ensures)
     (at-enum-told .enum-told .given .1) (at-read-lines .read-lines .ensures) (at-r2 .r2 .given .1)
-    (cleared-again (at-clear2 .clear2 .ensures) (at-read-lines .read-lines .kept .1 .0 ∙ row-kept (at-clear .clear .ensures))
-    (at-read-lines .read-lines .kept .1 .1 .0 ∙ column-kept (at-clear .clear .ensures))
-    (at-read-lines .read-lines .kept .1 .1 .1 .0 ∙ weight-kept (at-clear .clear .ensures)))
+    (cleared-again (at-clear2 .clear2 .ensures) (at-read-lines .read-lines .kept .1 .1 .1 .0 ∙ row-kept (at-clear .clear .ensures))
+    (at-read-lines .read-lines .kept .1 .1 .1 .1 .0 ∙ column-kept (at-clear .clear .ensures))
+    (at-read-lines .read-lines .kept .1 .1 .1 .1 .1 .0 ∙ weight-kept (at-clear .clear .ensures)))
 
-pub read-graph-spec : {M : Type 1} → statement M
-read-graph-spec =
+pub read-graph-by-spec : {M : Type 1} → statement M
+read-graph-by-spec =
     tie.close
     (tie.spec
     (λ c κs. search needs)

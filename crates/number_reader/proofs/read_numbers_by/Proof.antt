@@ -1,4 +1,4 @@
--- `read_numbers` clears its output, makes the tests, reads the lines, and clears its output again after a refusal.
+-- `read_numbers_by` clears its output, makes the tests, reads the lines, and clears its output again after a refusal.
 use Prim.Native.Nat.{ℕ}
 use mathlib.Core.Path.{ap, _∙_}
 use lib.Dec.{eqb}
@@ -7,8 +7,8 @@ use lib.ListN.{length, replicate, length-replicate}
 use denote.Ref.{now}
 use Rattle.number_reader.proofs.Whole.{lent-right, whole-lent, whole-read, whole-refused}
 use borrow.Author.Needs.{needs}
-use Rattle.number_reader.proofs.read_numbers.Statement.{statement}
-use Rattle.number_reader.proofs.read_numbers.Tie as tie
+use Rattle.number_reader.proofs.read_numbers_by.Statement.{statement}
+use Rattle.number_reader.proofs.read_numbers_by.Tie as tie
 
 read-lines-requires : tie.Need-read-lines-requires
 read-lines-requires c κs =
@@ -18,7 +18,7 @@ read-lines-requires c κs =
     let args = at-clear-integers .before .before .before .args in
     at-clear-integers .clear-integers .ensures
     ∙ ap (λ (k : ℕ). replicate k (pos 0))
-    (lent-right (args .what) (args .count) (length (now (args .out))) (now (args .text))
+    (lent-right (args .rules) (args .what) (args .count) (length (now (args .out))) (now (args .text))
     (ap (λ (k : ℕ). eqb k (args .count))
     (ap length (at-clear-integers .clear-integers .ensures) ∙ length-replicate (length (now (args .out))) (pos 0))) (at-both .both .ensures) _
     (at-check-text .check-text .ensures) (c .before .enum-told .given .1))
@@ -29,7 +29,7 @@ returns c =
     let at-both = at-check-text .before in
     let at-clear-integers = at-both .before .before in
     let args = at-clear-integers .before .before .before .args in
-    whole-lent (args .what) (args .count) (length (now (args .out))) (now (args .text))
+    whole-lent (args .rules) (args .what) (args .count) (length (now (args .out))) (now (args .text))
     (ap (λ (k : ℕ). eqb k (args .count))
     (ap length (at-clear-integers .clear-integers .ensures) ∙ length-replicate (length (now (args .out))) (pos 0))) (at-both .both .ensures) _
     (at-check-text .check-text .ensures) (c .before .r .given .1) (at-clear-integers .clear-integers .ensures)
@@ -42,7 +42,7 @@ returns-2 c =
     let at-both = at-check-text .before in
     let at-clear-integers = at-both .before .before in
     let args = at-clear-integers .before .before .before .args in
-    whole-read (args .what) (args .count) (length (now (args .out))) (now (args .text))
+    whole-read (args .rules) (args .what) (args .count) (length (now (args .out))) (now (args .text))
     (ap (λ (k : ℕ). eqb k (args .count))
     (ap length (at-clear-integers .clear-integers .ensures) ∙ length-replicate (length (now (args .out))) (pos 0))) (at-both .both .ensures) _
     (at-check-text .check-text .ensures) (at-enum-told .enum-told .given .1) (at-read-lines .read-lines .ensures) (c .enum-told2 .given .1)
@@ -56,17 +56,17 @@ returns-3 c =
     let at-both = at-check-text .before in
     let at-clear-integers = at-both .before .before in
     let args = at-clear-integers .before .before .before .args in
-    whole-refused (args .what) (args .count) (length (now (args .out))) (now (args .text))
+    whole-refused (args .rules) (args .what) (args .count) (length (now (args .out))) (now (args .text))
     (ap (λ (k : ℕ). eqb k (args .count))
     (ap length (at-clear-integers .clear-integers .ensures) ∙ length-replicate (length (now (args .out))) (pos 0))) (at-both .both .ensures) _
     (at-check-text .check-text .ensures) (at-enum-told .enum-told .given .1) (at-read-lines .read-lines .ensures) (at-r2 .r2 .given .1)
     (c .before .clear-integers2 .ensures
     ∙ ap (λ (k : ℕ). replicate k (pos 0))
-    (at-read-lines .read-lines .kept .1 .1 .1 .0 ∙ ap length (at-clear-integers .clear-integers .ensures)
+    (at-read-lines .read-lines .kept .1 .1 .1 .1 .0 ∙ ap length (at-clear-integers .clear-integers .ensures)
     ∙ length-replicate (length (now (args .out))) (pos 0)))
 
-pub read-numbers-spec : {M : Type 1} → statement M
-read-numbers-spec =
+pub read-numbers-by-spec : {M : Type 1} → statement M
+read-numbers-by-spec =
     tie.close
     (tie.spec
     (λ c κs. search needs)

@@ -1,0 +1,10 @@
+pub mod Edges
+pub mod Texts
+pub mod Marks
+pub mod Unmarked
+pub mod Extends
+pub mod AllMarked
+pub mod Patterns
+pub mod Readers
+pub mod Prices
+pub mod Taken

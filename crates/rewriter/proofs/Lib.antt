@@ -1,0 +1,4 @@
+pub mod Put
+pub mod Begun
+pub mod Turn
+pub mod Loops

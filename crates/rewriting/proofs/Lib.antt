@@ -1,0 +1,5 @@
+pub mod Written
+pub mod Pieces
+pub mod Anew
+pub mod Kept
+pub mod Texts
