@@ -1,6 +1,6 @@
 /* The calls from C, through the layer of jangoripu.h: draws up the plan of the season, marks it against the season's prices, and measures
- * the tank's plan against prices with a group; builds and tests the index of both sheets. Run in this folder; what it writes is in
- * calls.out. */
+ * the tank's plan against prices with a group; builds and tests the index of both sheets; and tidies the untidy sheet. Run in this folder;
+ * what it writes is in calls.out. */
 #include "jangoripu.h"
 #include <stdio.h>
 #include <stdlib.h>
@@ -28,12 +28,18 @@ static void expect(uint32_t refusal, const uint64_t *place, const char *what) {
     exit(1);
 }
 
-static jangoripu_sheet sheet(const char *path, const char *limits) {
+static jangoripu_sheet sheet(const char *path) {
     jangoripu_sheet s;
     uint64_t place;
     size_t length = load(path);
     expect(jangoripu_sheet_read(&s, text, length, row, column, weight, &place), &place, path);
-    length = load(limits);
+    return s;
+}
+
+static jangoripu_sheet sheet_with_limits(const char *path, const char *limits) {
+    jangoripu_sheet s = sheet(path);
+    uint64_t place;
+    size_t length = load(limits);
     expect(jangoripu_limits_read(&s, text, length, bound, &place), &place, limits);
     return s;
 }
@@ -73,7 +79,7 @@ static void season(void) {
     static int32_t vertex_price[JANGORIPU_MOST_VERTICES], edge_price[JANGORIPU_MOST_EDGES], workspace[JANGORIPU_WORKSPACE_NUMBERS];
     static int32_t price[JANGORIPU_MOST_NUMBERS];
     static uint8_t out[JANGORIPU_SUBGRAPH_BYTES];
-    jangoripu_sheet s = sheet("season/sheet.mtx", "season/limits.mtx");
+    jangoripu_sheet s = sheet_with_limits("season/sheet.mtx", "season/limits.mtx");
     jangoripu_prices p;
     uint64_t place;
     size_t length;
@@ -92,7 +98,7 @@ static void tank(void) {
     const int32_t vertex_price[5] = {0, 0, 2, 4, 0}, edge_price[5] = {0}, set_price[1] = {10};
     const uint64_t set_vertices[JANGORIPU_VERTEX_WORDS] = {7, 0}, set_edges[JANGORIPU_EDGE_WORDS] = {0};
     const jangoripu_prices p = {vertex_price, edge_price, 1, set_price, set_vertices, set_edges};
-    jangoripu_sheet s = sheet("tank/sheet.mtx", "tank/limits.mtx");
+    jangoripu_sheet s = sheet_with_limits("tank/sheet.mtx", "tank/limits.mtx");
     uint64_t place;
     size_t length = load("tank/plan.mtx");
     build_index(&s);
@@ -101,8 +107,19 @@ static void tank(void) {
     mark(&s, &p);
 }
 
+/* Writes the tidy form of a sheet whose pairs stand in any order. */
+static void untidy(void) {
+    static uint8_t out[JANGORIPU_GRAPH_BYTES];
+    jangoripu_sheet s = sheet("untidy/sheet.mtx");
+    uint64_t place;
+    size_t length;
+    expect(jangoripu_sheet_tidy(&s, out, &length, &place), &place, "input");
+    fwrite(out, 1, length, stdout);
+}
+
 int main(void) {
     season();
     tank();
+    untidy();
     return 0;
 }

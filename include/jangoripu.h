@@ -1,4 +1,4 @@
-/* The eight calls of Jangoripu, exported from the static library libjangoripu.a, and a small layer over them at the end of this file.
+/* The nine calls of Jangoripu, exported from the static library libjangoripu.a, and a small layer over them at the end of this file.
  *
  * A sheet is a graph: fish are its vertices, pairs its edges, merits its weights, limits its bounds; a plan is a subgraph, a group an
  * odd set and a leftover a slack. On a two-sided sheet (a bipartite graph) the dams are the rows and the sires the columns; on a
@@ -16,6 +16,11 @@
  * weight, bound or price below 0. So 07, +7 and -0 are malformed: JANGORIPU_SIZE_LINE on a size line, JANGORIPU_LATER_LINE elsewhere. The
  * program rewrite puts texts that were stored with such numbers right.
  *
+ * A sheet has one tidy form, a text: its header, of which all words but the first are in lower case, its size line, and its edges by rising
+ * row and then column, with one space between words and numbers, byte 10 after every line, and nothing else. Two sheets have the same kind
+ * and sizes and the same edges with the same weights exactly if their tidy forms are the same bytes. The edges of a tidy text are numbered in
+ * its order: plans that are texts are read with it as before, but an index, marks and prices are for the order that they were made for.
+ *
  * A slice is passed as a pointer and then its length, in numbers, which is exactly what is said at the call. A pointer may point
  * anywhere if its length is 0, but is NOT NULL; the layer below takes care of that. Slices that are written overlap no other.
  *
@@ -24,7 +29,7 @@
  * are taken as passed, whatever they are, and tested.
  *
  * The calls use no heap, no files and no state of their own, so they are reentrant: several may run at a time, each with its own
- * slices. JANGORIPU_STACK bytes of stack are enough for a call: that is measured (38 KiB at most), and unlike the rest not proved. */
+ * slices. JANGORIPU_STACK bytes of stack are enough for a call: that is measured (53 KiB at most), and unlike the rest not proved. */
 #ifndef JANGORIPU_H
 #define JANGORIPU_H
 
@@ -75,6 +80,7 @@ enum jangoripu_refusal {
 #define JANGORIPU_LONGEST_TEXT 32768     /* bytes of a text */
 #define JANGORIPU_LONGEST_LINE 1024      /* bytes of a line */
 #define JANGORIPU_SUBGRAPH_BYTES 16384   /* the length of a plan writer's output */
+#define JANGORIPU_GRAPH_BYTES 32768      /* the length of a tidy sheet's output */
 #define JANGORIPU_WORKSPACE_NUMBERS 4096 /* the length of the solver's workspace */
 #define JANGORIPU_STACK 65536            /* bytes of stack that are enough for a call, as measured */
 
@@ -115,6 +121,12 @@ uint32_t jangoripu_read_subgraph(const uint8_t *text, size_t text_len, bool gene
 uint32_t jangoripu_write_subgraph(bool general, uint32_t rows, uint32_t columns, uint32_t edges, const uint32_t *row, size_t row_len,
                                   const uint32_t *column, size_t column_len, const int32_t *weight, size_t weight_len,
                                   const uint8_t *chosen, size_t chosen_len, uint8_t *out, size_t out_len, uint64_t answer[2]);
+
+/* Writes a sheet of either sort in its tidy form. row, column and weight have exactly edges numbers each, out exactly 32,768 bytes, 0 after
+ * the text. answer: place; length of the text. Refusals: 9, 4, 6, 7, 8. No pointer is null. */
+uint32_t jangoripu_tidy_graph(bool general, uint32_t rows, uint32_t columns, uint32_t edges, const uint32_t *row, size_t row_len,
+                              const uint32_t *column, size_t column_len, const int32_t *weight, size_t weight_len, uint8_t *out,
+                              size_t out_len, uint64_t answer[2]);
 
 /* Builds the index of a sheet of either sort. row, column and weight have exactly edges numbers each; index has exactly
  * n + 1 + 2 * edges, n the number of vertices, and after a refusal only 0. Refusals: 9, 4, 6, 7, 8. No pointer is null. */
@@ -191,7 +203,7 @@ static inline size_t jangoripu_index_length(const jangoripu_sheet *s) {
     return jangoripu_vertices(s) + 1 + 2 * (size_t)s->edges;
 }
 
-/* A pointer that is not null, to be read or to be written, and the place that is told, if it is asked for. */
+/* A pointer that is not null, to be read or to be written; the place that is told, if it is asked for; and a text's length with it. */
 static inline const void *jangoripu_some(const void *pointer) {
     static const uint64_t nothing = 0;
     return pointer != NULL ? pointer : (const void *)&nothing;
@@ -206,6 +218,11 @@ static inline uint32_t jangoripu_told(uint32_t refusal, uint64_t at, uint64_t *p
     if (place != NULL)
         *place = at;
     return refusal;
+}
+
+static inline uint32_t jangoripu_written(uint32_t refusal, const uint64_t told[JANGORIPU_TEXT_TOLD], size_t *length, uint64_t *place) {
+    *length = (size_t)told[JANGORIPU_TEXT_BYTES];
+    return jangoripu_told(refusal, told[JANGORIPU_TEXT_PLACE], place);
 }
 
 /* A slice that is read or written, and a sheet's numbers, as the calls take them. */
@@ -269,8 +286,14 @@ static inline uint32_t jangoripu_plan_write(const jangoripu_sheet *s, const uint
     uint64_t told[JANGORIPU_TEXT_TOLD];
     uint32_t refusal = jangoripu_write_subgraph(JANGORIPU_NUMBERS(s), JANGORIPU_READ(uint8_t, chosen, s->edges), out,
                                                 JANGORIPU_SUBGRAPH_BYTES, told);
-    *length = (size_t)told[JANGORIPU_TEXT_BYTES];
-    return jangoripu_told(refusal, told[JANGORIPU_TEXT_PLACE], place);
+    return jangoripu_written(refusal, told, length, place);
+}
+
+/* Writes the sheet in its tidy form; out has 32,768 bytes, and *length is how many of them the text has. */
+static inline uint32_t jangoripu_sheet_tidy(const jangoripu_sheet *s, uint8_t *out, size_t *length, uint64_t *place) {
+    uint64_t told[JANGORIPU_TEXT_TOLD];
+    uint32_t refusal = jangoripu_tidy_graph(JANGORIPU_NUMBERS(s), out, JANGORIPU_GRAPH_BYTES, told);
+    return jangoripu_written(refusal, told, length, place);
 }
 
 /* Builds the sheet's index into an array of at least as many numbers as it has (2,177 always do), and points s at it. */

@@ -13,7 +13,7 @@ use Rattle.graph.proofs.Passing.{some-cong, some-next}
 use Rattle.checks.specs.Checks.{Flagged, flagAt, tableFlags, joinedIn, Seen}
 
 -- Edge e has row r and column c.
-abbrev joinsIn : List ℕ → List ℕ → ℕ → ℕ → ℕ → Bool
+abbrev pub joinsIn : List ℕ → List ℕ → ℕ → ℕ → ℕ → Bool
 joinsIn row column r c e = eqb (getD row e 0) r && eqb (getD column e 0) c
 
 -- A flag is one of the table's.
@@ -23,6 +23,17 @@ flag-within p q = omega arith
 -- Two flags at one place are of the same ends.
 pub flag-ends : (r c s d : ℕ) → Flagged r → Flagged c → Flagged s → Flagged d → flagAt r c ≡ flagAt s d → (r ≡ s) × (c ≡ d)
 flag-ends r c s d p q p′ q′ e = omega arith
+
+-- An edge has the ends of no other flag than its own.
+pub flag-other : (row column : List ℕ) (n : ℕ) {r c : ℕ} → getD row n 0 ≡ r → getD column n 0 ≡ c → (s d : ℕ) → (flagAt s d ≡ flagAt r c → ⊥) →
+    joinsIn row column s d n ≡ false
+flag-other row column n rowIs columnIs s d e = elim (ℕ-discrete (getD row n 0) s) [
+  | yes i ↦ elim (ℕ-discrete (getD column n 0) d) [
+    | yes j ↦ absurd (e (ap₂ flagAt (sym i ∙ rowIs) (sym j ∙ columnIs)))
+    | no j ↦ ap (λ (a : Bool). eqb (getD row n 0) s && a) (ne-eqb _ _ j) ∙ and-false (eqb (getD row n 0) s)
+  ]
+  | no i ↦ ap (λ (a : Bool). a && eqb (getD column n 0) d) (ne-eqb _ _ i)
+]
 
 -- An empty table, before the first edge.
 pub seen-none : (flags row column : List ℕ) → length flags ≡ tableFlags → ((k : ℕ) → k < tableFlags → getD flags k 0 ≡ 0) → Seen flags row column 0
@@ -76,18 +87,9 @@ module _ {flags row column : List ℕ} {n : ℕ} (S : Seen flags row column n) w
           ∙ ap (λ (a : Bool). joinedIn row column n s d || a) (ap₂ _&&_ (eq-eqb _ _ i) (eq-eqb _ _ j))
           ∙ or-true (joinedIn row column n s d)
 
-      other : (s d : ℕ) → (flagAt s d ≡ flagAt r c → ⊥) → joinsIn row column s d n ≡ false
-      other s d e = elim (ℕ-discrete (getD row n 0) s) [
-        | yes i ↦ elim (ℕ-discrete (getD column n 0) d) [
-          | yes j ↦ absurd (e (ap₂ flagAt (sym i ∙ rowIs) (sym j ∙ columnIs)))
-          | no j ↦ ap (λ (a : Bool). eqb (getD row n 0) s && a) (ne-eqb _ _ j) ∙ and-false (eqb (getD row n 0) s)
-        ]
-        | no i ↦ ap (λ (a : Bool). a && eqb (getD column n 0) d) (ne-eqb _ _ i)
-      ]
-
       kept : (s d : ℕ) → (flagAt s d ≡ flagAt r c → ⊥) → joinedIn row column (n + 1) s d ≡ joinedIn row column n s d
       kept s d e =
-          some-next n (joinsIn row column s d) ∙ ap (λ (a : Bool). joinedIn row column n s d || a) (other s d e) ∙ or-false (joinedIn row column n s d)
+          some-next n (joinsIn row column s d) ∙ ap (λ (a : Bool). joinedIn row column n s d || a) (flag-other row column n rowIs columnIs s d e) ∙ or-false (joinedIn row column n s d)
 
 -- An edge is appended to n edges, and noted.
 pub seen-append : {flags row column : List ℕ} (n : ℕ) (new : List ℕ) (r c : ℕ) → Seen flags row column n → new ≡ set flags (flagAt r c) 1 →

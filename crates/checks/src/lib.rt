@@ -205,6 +205,14 @@ fn lowest_ends(s: Shape, row: &[u32], column: &[u32]) -> Lowest
     Lowest::Nothing
 }
 
+// Where the flag of a row and a column stands in a table of ends.
+pub fn flag_at(r: u32, c: u32) -> usize
+    requires { ⌜ Flagged r × Flagged c ⌝ }
+    ensures { λ k. ⌜ (k ≡ flagAt r c) × (k < tableFlags) ⌝ }
+{
+    ((r - 1) * MOST_VERTICES as u32 + (c - 1)) as usize
+}
+
 // Notes an edge's ends in the table of ends, and answers whether they were there before.
 pub fn note(flags: &mut [u8], r: u32, c: u32) -> bool
     requires { ⌜ length (now flags) ≡ tableFlags ⌝ }
@@ -212,7 +220,7 @@ pub fn note(flags: &mut [u8], r: u32, c: u32) -> bool
     ensures { λ b. ⌜ b ≡ eqb (getD (now (flags .entry)) (flagAt r c) 0) 1 ⌝ }
     ensures { λ b. ⌜ now (flags .exit) ≡ set (now (flags .entry)) (flagAt r c) 1 ⌝ }
 {
-    let at = ((r - 1) * MOST_VERTICES as u32 + (c - 1)) as usize;
+    let at = flag_at(r, c);
     let before = flags[at];
     flags[at] = 1;
     before == 1

@@ -8,9 +8,12 @@ use Rattle.graph.specs.declared.Shape.{Shape}
 use Rattle.graph.specs.Refusal.{Outcome, yields, refuses, told, reported, output}
 use Rattle.graph.specs.Graph.{Graph, shapeOf}
 use Rattle.graph.proofs.Told.{told-same}
+use Rattle.layout.specs.declared.TextAnswer.{TextAnswer}
+use Rattle.layout.specs.declared.TextAnswer.the-variants as TextAnswer
+use Rattle.layout.specs.Answers.{textSays}
 use Rattle.dual.specs.declared.Measures.{Measures}
 use Rattle.dual.specs.Solve.{Lent, solve, Left}
-use Rattle.jangoripu.specs.Exports.{numberIn, placeIn, shapeTold, lengthTold, measuresTold, GraphRead, Filled, Tested, TextWritten, Measured, GraphSolved}
+use Rattle.jangoripu.specs.Exports.{numberIn, placeIn, shapeTold, lengthTold, textOutcome, measuresTold, GraphRead, Filled, Tested, TextWritten, Measured, GraphSolved}
 
 -- A report keeps the number and the place of a refusal.
 pub number-kept : {A B : Type 0} (f : A → B) (W : Outcome A) → numberIn (reported f W) ≡ numberIn W
@@ -45,14 +48,16 @@ filling-told o {W} says holds = record {
 pub testing-told : (o : Outcome (Unit {0})) {W : Outcome (Unit {0})} → told o ≡ told W → Tested W (numberIn o) (placeIn o)
 testing-told o {W} says = let e = told-same o W says in record { number = ap numberIn e; told = ap placeIn e }
 
+outcome-says : (a : TextAnswer) → told (textOutcome a) ≡ textSays a
+outcome-says (TextAnswer.Written n) = refl
+outcome-says (TextAnswer.Refused r) = refl
+
 pub text-written :
-    (o : Outcome ℕ) {W : Outcome (List ℕ)} {n : ℕ} {out : List ℕ} → told o ≡ told (reported length W) → out ≡ output n 0 (λ t. t) W
-    → TextWritten W n (numberIn o) (lengthTold o) out
-text-written o {W} says holds = record {
-  number = ap numberIn (told-same o (reported length W) says) ∙ number-kept length W;
-  told = ap lengthTold (told-same o (reported length W) says);
-  holds = holds;
-}
+    (a : TextAnswer) {W : Outcome (List ℕ)} {n r : ℕ} {answer out : List ℕ} → textSays a ≡ told (reported length W) → out ≡ output n 0 (λ t. t) W
+    → (r ≡ numberIn (textOutcome a)) × (answer ≡ lengthTold (textOutcome a)) → TextWritten W n r answer out
+text-written a {W} says holds tells =
+    let e = told-same (textOutcome a) (reported length W) (outcome-says a ∙ says) in
+    record { number = tells .0 ∙ ap numberIn e ∙ number-kept length W; told = tells .1 ∙ ap lengthTold e; holds = holds }
 
 pub graph-solved :
     (o : Outcome (Unit {0})) {g : Graph} {bound : List ℤ} {index : List ℕ} {lent : Lent} {x : List ℕ} {vertex edge workspace : List ℤ}

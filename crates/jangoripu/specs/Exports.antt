@@ -10,6 +10,8 @@ use Rattle.graph.specs.declared.Shape.{Shape}
 use Rattle.graph.specs.declared.Kind.the-variants.{Bipartite, General}
 use Rattle.graph.specs.Refusal.{Outcome, yields, refuses, numberOf, reported, output}
 use Rattle.graph.specs.Graph.{Graph, shapeOf}
+use Rattle.layout.specs.declared.TextAnswer.{TextAnswer}
+use Rattle.layout.specs.declared.TextAnswer.the-variants as TextAnswer
 use Rattle.layout.specs.declared.Numbers.{Numbers}
 use Rattle.layout.specs.declared.Numbers.the-variants.{Bounds, Prices}
 use Rattle.dual.specs.declared.Measures.{Measures}
@@ -46,10 +48,15 @@ abbrev pub shapeTold : Outcome Shape → List ℕ
 shapeTold (yields s) = 0 ∷ kindNumber (s .kind) ∷ s .rows ∷ s .columns ∷ s .edges ∷ []
 shapeTold (refuses fault place) = place ∷ 0 ∷ 0 ∷ 0 ∷ 0 ∷ []
 
--- What the subgraph writer tells: the place, and the text's length.
+-- What a call that writes a text tells: the place, and the text's length.
 abbrev pub lengthTold : Outcome ℕ → List ℕ
 lengthTold (yields n) = 0 ∷ n ∷ []
 lengthTold (refuses fault place) = place ∷ 0 ∷ []
+
+-- What it answers, as an outcome.
+abbrev pub textOutcome : TextAnswer → Outcome ℕ
+textOutcome (TextAnswer.Written n) = yields n
+textOutcome (TextAnswer.Refused r) = refuses (r .fault) (r .place)
 
 -- What the measuring call tells: weight, total, slacks of vertices, odd sets, edges and cover, and gap.
 abbrev pub measuresTold : Outcome Measures → List ℤ

@@ -1,4 +1,4 @@
-// The eight public calls, exported for C and Rust; include/jangoripu.h declares them.
+// The nine public calls, exported for C and Rust; include/jangoripu.h declares them.
 //
 // Each returns 0 for a result, or the number of a refusal, and tells the refusal's place. A kind is a bool: false for bipartite (two-sided),
 // true for general (one-sided); so is the sort of numbers: false for bounds (limits), true for prices. No other value can be passed.
@@ -20,13 +20,14 @@ ghost use lib.ListN.{length};
 ghost use Rattle.layout.specs.GraphText.{readGraph};
 ghost use Rattle.layout.specs.NumberText.{readNumbers};
 ghost use Rattle.layout.specs.SubgraphText.{readSubgraph, writeSubgraph};
+ghost use Rattle.layout.specs.TidyText.{tidyGraph};
 ghost use Rattle.graph.specs.Refusal.{numberOf};
 ghost use Rattle.graph.specs.Graph.{graphOf};
 ghost use Rattle.graph.specs.Index.{buildIndex, testIndex};
 ghost use Rattle.dual.specs.Prices.{pricesOf};
 ghost use Rattle.dual.specs.Measure.{measure};
 ghost use Rattle.dual.specs.Solve.{lentOf};
-ghost use Rattle.jangoripu.specs.Exports.{kindOf, shapeGiven, kindNumber, numbersOf, GraphRead, Filled, Tested, TextWritten, GraphSolved, Measured};
+ghost use Rattle.jangoripu.specs.Exports.{kindOf, shapeGiven, kindNumber, numbersOf, numberIn, lengthTold, textOutcome, GraphRead, Filled, Tested, TextWritten, GraphSolved, Measured};
 
 // The kind that is passed as a bool.
 fn kind_of(general: bool) -> Kind
@@ -80,6 +81,23 @@ fn tell(refusal: Refusal, place: &mut u64) -> u32
     *place = refusal.place;
     let fault = refusal.fault;
     graph::number(fault)
+}
+
+// Tells the place of a refusal and the length of a text, as a call that writes one answers them, and answers the refusal's number.
+fn tell_text(told: TextAnswer, answer: &mut [u64; 2]) -> u32
+    ensures { λ r. ⌜ (r ≡ numberIn (textOutcome told)) × (now (answer .exit) ≡ lengthTold (textOutcome told)) ⌝ }
+{
+    match told {
+        TextAnswer::Written(length) => {
+            *answer = [0, length as u64];
+            0
+        }
+        TextAnswer::Refused(refusal) => {
+            *answer = [refusal.place, 0];
+            let fault = refusal.fault;
+            graph::number(fault)
+        }
+    }
 }
 
 // Reads a graph (sheet). The answer tells the place, and kind, rows, columns and the number of edges.
@@ -172,17 +190,28 @@ pub extern "C" fn jangoripu_write_subgraph(
     ensures { λ r. ⌜ TextWritten (writeSubgraph (graphOf (shapeGiven general rows columns edges) (now (row .entry)) (now (column .entry)) (now (weight .entry))) (now (chosen .entry)) (length (now (out .entry)))) (length (now (out .entry))) r (now (answer .exit)) (now (out .exit)) ⌝ }
 {
     let s = shape_of(general, rows, columns, edges);
-    match subgraph_writer::write_subgraph(s, row, column, weight, chosen, out) {
-        TextAnswer::Written(length) => {
-            *answer = [0, length as u64];
-            0
-        }
-        TextAnswer::Refused(refusal) => {
-            *answer = [refusal.place, 0];
-            let fault = refusal.fault;
-            graph::number(fault)
-        }
-    }
+    let told = subgraph_writer::write_subgraph(s, row, column, weight, chosen, out);
+    tell_text(told, answer)
+}
+
+// Writes the tidy text of a graph (the tidy sheet). The answer tells the place, and the text's length.
+#[no_mangle]
+pub extern "C" fn jangoripu_tidy_graph(
+    general: bool,
+    rows: u32,
+    columns: u32,
+    edges: u32,
+    row: &[u32],
+    column: &[u32],
+    weight: &[i32],
+    out: &mut [u8],
+    answer: &mut [u64; 2],
+) -> u32
+    ensures { λ r. ⌜ TextWritten (tidyGraph (graphOf (shapeGiven general rows columns edges) (now (row .entry)) (now (column .entry)) (now (weight .entry))) (length (now (out .entry)))) (length (now (out .entry))) r (now (answer .exit)) (now (out .exit)) ⌝ }
+{
+    let s = shape_of(general, rows, columns, edges);
+    let told = tidier::tidy_graph(s, row, column, weight, out);
+    tell_text(told, answer)
 }
 
 // Builds the index of a graph (the pairs of each fish at hand).

@@ -1,6 +1,6 @@
--- The text of a graph (sheet), and what the graph reader yields. A text without weights, whose field is `pattern`, is read alike, each weight as 0:
--- it is the text of a subgraph (plan) without its graph.
-use Prim.Native.Nat.{ℕ}
+-- The text of a graph (sheet): what the graph reader yields, and how a graph is written. A text without weights, whose field is `pattern`, is read alike,
+-- each weight as 0: it is the text of a subgraph (plan) without its graph.
+use Prim.Native.Nat.{ℕ, zero, suc}
 use mathlib.Core.Bool.{cond, _&&_}
 use mathlib.Core.List.{List, [], _∷_, _++_}
 use mathlib.Core.Option.{Option, none, some, Option·map}
@@ -13,12 +13,12 @@ use Rattle.graph.specs.declared.Fault.the-variants.{TextLength, Header, SizeLin
 use Rattle.graph.specs.declared.Shape.{Shape}
 use Rattle.graph.specs.Limits.{mostEdges}
 use Rattle.graph.specs.Refusal.{Outcome, Test, once, passing}
-use Rattle.graph.specs.Graph.{Graph, graphOf, shapeOf, shapeInRange, endsInRange, weightInRange, joined}
+use Rattle.graph.specs.Graph.{Graph, graphOf, shapeOf, rowAt, columnAt, weightAt, shapeInRange, endsInRange, weightInRange, joined}
 use Rattle.layout.specs.declared.Rules.{Rules}
 use Rattle.layout.specs.declared.Rules.the-variants.{New}
 use Rattle.layout.specs.declared.Field.{Field}
 use Rattle.layout.specs.declared.Field.the-variants as Field
-use Rattle.layout.specs.Text.{bytes, words, natural, integer, twoWords, threeWords, header, textFits}
+use Rattle.layout.specs.Text.{bytes, words, natural, integer, twoWords, threeWords, header, textFits, decimal, signed, spaced, unlines}
 use Rattle.layout.specs.Lines.{Step, goes, stops, Layout, readText}
 
 -- Header: `%%MatrixMarket matrix coordinate integer general`, or `symmetric` for a general graph; `pattern` for `integer` where there are no weights.
@@ -81,3 +81,29 @@ readGraphBy rules field r c w text = passing (graphReaderTests r c w text) (read
 
 abbrev pub readGraph : ℕ → ℕ → ℕ → List ℕ → Outcome Graph
 readGraph r c w text = readGraphBy New Field.Integer r c w text
+
+-- ---- how a graph is written
+
+-- The header line of a text that is written, each word after the first in lower case.
+abbrev pub headerText : Field → Kind → List ℕ
+headerText Field.Integer Bipartite = bytes "%%MatrixMarket matrix coordinate integer general"
+headerText Field.Integer General = bytes "%%MatrixMarket matrix coordinate integer symmetric"
+headerText Field.Pattern Bipartite = bytes "%%MatrixMarket matrix coordinate pattern general"
+headerText Field.Pattern General = bytes "%%MatrixMarket matrix coordinate pattern symmetric"
+
+-- The line of edge e: row, column and weight.
+abbrev pub edgeLine : Graph → ℕ → List ℕ
+edgeLine g e = spaced (decimal (rowAt g e) ∷ decimal (columnAt g e) ∷ signed (weightAt g e) ∷ [])
+
+-- The lines of the first n edges, in the graph's order.
+unfoldable pub edgeLines : Graph → ℕ → List (List ℕ)
+edgeLines g zero = []
+edgeLines g (suc n) = edgeLines g n ++ (edgeLine g n ∷ [])
+
+-- The text that a graph is written as, its edges in the graph's order.
+unfoldable pub graphText : Graph → List ℕ
+graphText g =
+    unlines
+    (headerText Field.Integer (g .kind)
+    ∷ spaced (decimal (g .rows) ∷ decimal (g .columns) ∷ decimal (g .edges) ∷ [])
+    ∷ edgeLines g (g .edges))

@@ -16,8 +16,10 @@ use Rattle.graph.specs.Subgraph.{markAt}
 use Rattle.graph.specs.Tests.{graphLengths, graphTests, markTest}
 use Rattle.layout.specs.declared.Rules.{Rules}
 use Rattle.layout.specs.declared.Rules.the-variants.{New}
+use Rattle.layout.specs.declared.Field.the-variants as Field
 use Rattle.layout.specs.Text.{bytes, words, natural, twoWords, threeWords, header, textFits, decimal, spaced, unlines}
 use Rattle.layout.specs.Lines.{Step, goes, stops, Layout, readText}
+use Rattle.layout.specs.GraphText.{headerText}
 
 -- Header: `%%MatrixMarket matrix coordinate pattern general`, or `symmetric` for a general graph. A kind that differs from the graph's is a disagreement.
 abbrev pub subgraphKind : List ℕ → Option Kind
@@ -95,15 +97,11 @@ chosenLines g x zero = []
 chosenLines g x (suc n) =
     chosenLines g x n ++ cond (eqb (markAt x n) 1) (spaced (decimal (rowAt g n) ∷ decimal (columnAt g n) ∷ []) ∷ []) []
 
-abbrev pub headerText : Kind → List ℕ
-headerText Bipartite = bytes "%%MatrixMarket matrix coordinate pattern general"
-headerText General = bytes "%%MatrixMarket matrix coordinate pattern symmetric"
-
 -- The text that a subgraph is written as.
 unfoldable pub subgraphText : Graph → List ℕ → List ℕ
 subgraphText g x =
     unlines
-    (headerText (g .kind)
+    (headerText Field.Pattern (g .kind)
     ∷ spaced (decimal (g .rows) ∷ decimal (g .columns) ∷ decimal (sum (g .edges) (markAt x)) ∷ [])
     ∷ chosenLines g x (g .edges))
 

@@ -38,7 +38,7 @@ pub enum SubgraphAnswer {
     Refused(Refusal),
 }
 
-// The subgraph writer's answer: the length of its text.
+// The answer of a call that writes a text: its length.
 pub enum TextAnswer {
     Written(usize),
     Refused(Refusal),

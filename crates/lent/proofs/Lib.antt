@@ -1,3 +1,4 @@
 pub mod Setting
 pub mod Filling
 pub mod Lengths
+pub mod Parts

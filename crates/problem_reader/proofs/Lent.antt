@@ -1,13 +1,12 @@
--- The first numbers of an array, lent and come back; and the arrays that a problem is read into.
-use Prim.Native.Nat.{ℕ, _-_, _≤_}
+-- The arrays that a problem is read into.
+use Prim.Native.Nat.{ℕ, _-_}
 use mathlib.Core.Path.{_≡_, refl, sym, ap, ap₂, _∙_, subst}
 use mathlib.Core.Bool.{true}
-use mathlib.Core.List.{List, [], _∷_, _++_}
-use native.Mathlib.Omega.{arith}
+use mathlib.Core.List.{List, [], _∷_}
 use lib.Dec.{eqb}
 use lib.IntN.{ℤ, pos}
-use lib.ListN.{length, take, drop, replicate, length-replicate}
-use lib.Seq.{length-take-le, length-front, take-at}
+use lib.ListN.{length, take, replicate, length-replicate}
+use lib.Seq.{take-at}
 use Rattle.graph.specs.declared.Fault.{Fault}
 use Rattle.graph.specs.declared.Fault.the-variants.{LentLength}
 use Rattle.graph.specs.declared.Refusal.{Refusal}
@@ -34,22 +33,7 @@ use Rattle.problem_reader.specs.Problem.{problemShape, problemSays, Prob
 use Rattle.problem_reader.proofs.Kept.{graph-whole, numbers-filled}
 use Rattle.problem_reader.proofs.Answered.{withBounds}
 
--- The first n numbers of an array.
-pub first-long : {N : Type 0} (n : ℕ) (xs : List N) → n ≤ length xs → n ≡ length (take n xs)
-first-long n xs fits = sym (length-take-le n xs fits)
-
--- They were lent and came back as `part`: the array has room for them as before, and they are the part.
-pub record PartBack {N : Type 0} (n : ℕ) (xs part : List N) : Type 0 where
-  pub room : n ≤ length (part ++ drop n xs)
-  pub same : take n (part ++ drop n xs) ≡ part
-  pub long : n ≡ length (take n (part ++ drop n xs))
-
-pub came-back : {N : Type 0} (n : ℕ) (xs : List N) {part : List N} → n ≤ length xs → length part ≡ length (take n xs) → PartBack n xs part
-came-back n xs {part} fits kept =
-    let e = take-at part (drop n xs) n (kept ∙ sym (first-long n xs fits)) in
-    record { room = omega (arith, length-front xs part n kept); same = e; long = first-long n xs fits ∙ sym (ap length e ∙ kept) }
-
--- ---- the four arrays of a problem that is read, of 1,024 and 128 numbers
+-- ---- the four arrays, of 1,024 and 128 numbers
 
 -- The graph of a shape whose edges stand in the first numbers of three arrays.
 abbrev pub storedGraph : Shape → List ℕ → List ℕ → List ℤ → Graph
@@ -58,6 +42,17 @@ storedGraph s row column weight = graphOf s (take (s .edges) row) (take (s .edge
 -- The first m numbers of an output that is filled with m.
 first-of : {N : Type 0} (n m : ℕ) (z : N) (xs : List N) {out : List N} → out ≡ filled n z xs → length xs ≡ m → take m out ≡ xs
 first-of n m z xs e long = ap (take m) e ∙ take-at xs (replicate (n - length xs) z) m long
+
+-- A graph, of which s is told, stands in the first numbers of three arrays that are filled with it.
+pub stored-is : (g : Graph) (s : Shape) (n k : ℕ) {row column : List ℕ} {weight : List ℤ} → graphLengths g ≡ true → shapeOf g ≡ s
+    → row ≡ filled n 0 (g .row) → column ≡ filled n 0 (g .column) → weight ≡ filled k (pos 0) (g .weight) → storedGraph s row column weight ≡ g
+stored-is g s n k {row} {column} {weight} lengths told rows columns weights =
+    let m = g .edges in
+    let long = lengths-hold g lengths in
+    ap (λ (t : Shape). storedGraph t row column weight) (sym told)
+    ∙ ap (λ (xs : List ℕ). graphOf (shapeOf g) xs (take m column) (take m weight)) (first-of n m 0 (g .row) rows (long .0))
+    ∙ ap (λ (xs : List ℕ). graphOf (shapeOf g) (g .row) xs (take m weight)) (first-of n m 0 (g .column) columns (long .1))
+    ∙ ap (λ (xs : List ℤ). graphOf (shapeOf g) (g .row) (g .column) xs) (first-of k m (pos 0) (g .weight) weights (long .2))
 
 -- A problem that is read is a graph and bounds that are read.
 pub record ReadParts (r c w b : ℕ) (sheet limits : List ℕ) (P : Problem) : Type 0 where
@@ -104,24 +99,30 @@ told-ends : (W : Run Problem) (source : Source) (fault : Fault) (place : ℕ) �
 told-ends (has P) source fault place e = zero-one (cc)
 told-ends (ends s f p) source fault place e = cc
 
--- What `mark` and `solve` lend: arrays that hold 0.
-abbrev edgesLent : ℕ
+-- What the programs lend: arrays that hold 0.
+abbrev pub edgesLent : ℕ
 edgesLent = length {A = ℕ} (replicate 1024 0)
 
-abbrev weightsLent : ℕ
+abbrev pub weightsLent : ℕ
 weightsLent = length (replicate 1024 (pos 0))
 
 abbrev boundsLent : ℕ
 boundsLent = length (replicate 128 (pos 0))
 
-edges-lent : edgesLent ≡ 1024
+pub edges-lent : edgesLent ≡ 1024
 edges-lent = length-replicate {A = ℕ} 1024 0
 
-weights-lent : weightsLent ≡ 1024
+pub weights-lent : weightsLent ≡ 1024
 weights-lent = length-replicate 1024 (pos 0)
 
 bounds-lent : boundsLent ≡ 128
 bounds-lent = length-replicate 128 (pos 0)
+
+pub graph-lent : (sheet : List ℕ) → readGraph edgesLent edgesLent weightsLent sheet ≡ readGraph 1024 1024 1024 sheet
+graph-lent sheet =
+    ap (λ k. readGraph k edgesLent weightsLent sheet) edges-lent
+    ∙ ap (λ k. readGraph 1024 k weightsLent sheet) edges-lent
+    ∙ ap (λ k. readGraph 1024 1024 k sheet) weights-lent
 
 abbrev lentProblem : List ℕ → List ℕ → Run Problem
 lentProblem sheet limits = readProblem edgesLent edgesLent weightsLent boundsLent sheet limits
@@ -162,18 +163,11 @@ module _ (sheet limits : List ℕ) where
 
       graph-stored : storedGraph s row column weight ≡ P .graph
       graph-stored =
-          let g = P .graph in
-          let m = g .edges in
           let e = told-problem .is in
-          let long = lengths-hold g (whole .0) in
-          let p = first-of edgesLent m 0 (g .row) (L .rows ∙ ap (runOutput edgesLent 0 (λ (Q : Problem). Q .graph .row)) e) (long .0) in
-          let q = first-of edgesLent m 0 (g .column) (L .columns ∙ ap (runOutput edgesLent 0 (λ (Q : Problem). Q .graph .column)) e) (long .1) in
-          let u = first-of weightsLent m (pos 0) (g .weight) (L .weights ∙ ap (runOutput weightsLent (pos 0) (λ (Q : Problem). Q .graph .weight)) e)
-          (long .2) in
-          ap (λ (t : Shape). storedGraph t row column weight) (sym (told-problem .shape))
-          ∙ ap (λ (xs : List ℕ). graphOf (shapeOf g) xs (take m column) (take m weight)) p
-          ∙ ap (λ (xs : List ℕ). graphOf (shapeOf g) (g .row) xs (take m weight)) q
-          ∙ ap (λ (xs : List ℤ). graphOf (shapeOf g) (g .row) (g .column) xs) u
+          stored-is (P .graph) s edgesLent weightsLent (whole .0) (told-problem .shape)
+          (L .rows ∙ ap (runOutput edgesLent 0 (λ (Q : Problem). Q .graph .row)) e)
+          (L .columns ∙ ap (runOutput edgesLent 0 (λ (Q : Problem). Q .graph .column)) e)
+          (L .weights ∙ ap (runOutput weightsLent (pos 0) (λ (Q : Problem). Q .graph .weight)) e)
 
       bounds-stored : take (verticesIn s) bound ≡ P .bound
       bounds-stored =

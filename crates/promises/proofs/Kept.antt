@@ -33,6 +33,7 @@ use Rattle.layout.specs.Lines.{readText}
 use Rattle.layout.specs.GraphText.{graphLayout, graphReaderTests, readGraphBy, readGraph}
 use Rattle.layout.specs.NumberText.{numberLayout, numberReaderTests, readNumbersBy, readNumbers}
 use Rattle.layout.specs.SubgraphText.{subgraphText, subgraphLayout, subgraphReaderTests, readSubgraphBy, readSubgraph, writerTests, writeSubgraph}
+use Rattle.layout.specs.TidyText.{tidyText, tidyTests, tidyGraph}
 use Rattle.dual.specs.Prices.{Prices}
 use Rattle.dual.specs.Measure.{measure, measures, measureTests}
 use Rattle.dual.specs.Solve.{solverTests, solve}
@@ -195,6 +196,10 @@ subgraph-reader-refuses : (g : Graph) (n : ℕ) (text : List ℕ) (i p : ℕ) �
 unfolding readSubgraphBy
 subgraph-reader-refuses g n text i p = refused-just (subgraphReaderTests g n text) (readText (subgraphLayout New g) text) i p
 
+tidier-refuses : (g : Graph) (n : ℕ) (i p : ℕ) → Refuses (tidyGraph g n) i p ↔ Refusing (tidyTests g n) i p
+unfolding tidyGraph
+tidier-refuses g n i p = tests-alone (tidyTests g n) (yields (tidyText g)) i p (tidyText g) refl
+
 index-builder-refuses : (g : Graph) (n : ℕ) (i p : ℕ) → Refuses (buildIndex g n) i p ↔ Refusing (buildTests g n) i p
 unfolding buildIndex
 index-builder-refuses g n i p = tests-alone (buildTests g n) (yields (indexOf g)) i p (indexOf g) refl
@@ -208,6 +213,7 @@ refused-just-where-listed = record {
   solver = solver-refuses;
   measuring = measuring-refuses;
   writer = writer-refuses;
+  tidier = tidier-refuses;
   indexBuilder = index-builder-refuses;
   indexTester = index-tester-refuses;
   graphReader = graph-reader-refuses;

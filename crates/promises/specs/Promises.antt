@@ -25,9 +25,10 @@ use Rattle.layout.specs.declared.Rules.the-variants.{New, Old}
 use Rattle.layout.specs.declared.Field.the-variants as Field
 use Rattle.layout.specs.Text.{bytes, newline, blank, lines, words, natural, integer, signed, unlines, textFits}
 use Rattle.layout.specs.Lines.{readText}
-use Rattle.layout.specs.GraphText.{graphLayout, graphReaderTests, readGraphBy, readGraph}
+use Rattle.layout.specs.GraphText.{graphLayout, graphReaderTests, readGraphBy, readGraph, graphText}
 use Rattle.layout.specs.NumberText.{numberLayout, numberReaderTests, readNumbersBy, readNumbers}
 use Rattle.layout.specs.SubgraphText.{subgraphLayout, subgraphReaderTests, readSubgraphBy, readSubgraph, writerTests, writeSubgraph}
+use Rattle.layout.specs.TidyText.{tidyTests, tidyGraph}
 use Rattle.layout.specs.Rewrite.{ending, wordAnew, lineAnew, linesAnew, textAnew, rewriteOutput}
 use Rattle.dual.specs.declared.Measures.{Measures}
 use Rattle.dual.specs.Prices.{Prices, vertexPrice, edgePrice, setPrice}
@@ -36,6 +37,8 @@ use Rattle.dual.specs.Gap.{coverOf}
 use Rattle.dual.specs.Measure.{measure, measureTests}
 use Rattle.dual.specs.Solve.{Lent, solverTests, solve, withoutSets, SolverPrice, Zero, Left}
 use Rattle.duality.specs.Meaning.{Meaning}
+use Rattle.tidying.specs.Alike.{SameSheet, Rising, ReadAlike}
+use Rattle.report.specs.Programs.{tidyOutput}
 
 -- ---- Demand 1
 
@@ -91,6 +94,7 @@ pub record RefusedJustWhereListed : Type 0 where
   pub solver : (g : Graph) (bound : List ℤ) (index : List ℕ) (lent : Lent) (i p : ℕ) → Refuses (solve g bound index lent) i p ↔ Refusing (solverTests g bound index lent) i p
   pub measuring : (g : Graph) (bound : List ℤ) (x : List ℕ) (P : Prices) (i p : ℕ) → Refuses (measure g bound x P) i p ↔ Refusing (measureTests g bound x P) i p
   pub writer : (g : Graph) (x : List ℕ) (n : ℕ) (i p : ℕ) → Refuses (writeSubgraph g x n) i p ↔ Refusing (writerTests g x n) i p
+  pub tidier : (g : Graph) (n : ℕ) (i p : ℕ) → Refuses (tidyGraph g n) i p ↔ Refusing (tidyTests g n) i p
   pub indexBuilder : (g : Graph) (n : ℕ) (i p : ℕ) → Refuses (buildIndex g n) i p ↔ Refusing (buildTests g n) i p
   pub indexTester : (g : Graph) (index : List ℕ) (i p : ℕ) → Refuses (testIndex g index) i p ↔ Refusing (indexTests g index) i p
   pub graphReader : (r c w : ℕ) (text : List ℕ) (i p : ℕ) → Refuses (readGraph r c w text) i p ↔
@@ -231,3 +235,39 @@ PlanOfSomeSheet =
 abbrev pub ReadSheetsPass : Type 0
 ReadSheetsPass =
     (text : List ℕ) (g : Graph) → readGraph mostEdges mostEdges mostEdges text ≡ yields g → Passing (once LentLength (graphLengths g) ∷ graphTests g)
+
+-- ---- Request U3
+
+-- A text is accepted as a sheet, which it yields.
+abbrev pub ReadAs : List ℕ → Graph → Type 0
+ReadAs text g = readGraph mostEdges mostEdges mostEdges text ≡ yields g
+
+-- A text is a tidy form of a graph: it is read as the same sheet, its pairs by rising row and then column, and is what this is written as.
+pub record TidyFormOf (g : Graph) (text : List ℕ) : Type 0 where
+  pub graph : Graph
+  pub read : ReadAs text graph
+  pub same : SameSheet g graph
+  pub rising : Rising graph
+  pub written : text ≡ graphText graph
+
+-- "A writer that puts any accepted sheet into its single tidy form": whatever the call yields is a tidy form of the graph, so is what `tidy` writes of any
+-- accepted sheet, and no other text is one.
+pub record AnySheetTidied : Type 0 where
+  pub call : (g : Graph) (n : ℕ) (text : List ℕ) → tidyGraph g n ≡ yields text → TidyFormOf g text
+  pub program : (sheet : List ℕ) (g : Graph) → ReadAs sheet g → TidyFormOf g (tidyOutput sheet)
+  pub single : (g : Graph) (text other : List ℕ) → TidyFormOf g text → TidyFormOf g other → text ≡ other
+
+-- "Tidying a tidy text changes nothing."
+pub record TidyKept : Type 0 where
+  pub call : (g h : Graph) (n : ℕ) (text : List ℕ) → tidyGraph g n ≡ yields text → ReadAs text h → tidyGraph h n ≡ yields text
+  pub program : (sheet : List ℕ) (g : Graph) → ReadAs sheet g → tidyOutput (tidyOutput sheet) ≡ tidyOutput sheet
+
+-- "Two accepted texts tidy to the same bytes exactly when they have the same kind, sizes and pairs of ends, and the same merit at each."
+abbrev pub TidiedAlike : Type 0
+TidiedAlike = (sheet other : List ℕ) (g h : Graph) → ReadAs sheet g → ReadAs other h → (tidyOutput sheet ≡ tidyOutput other) ↔ SameSheet g h
+
+-- "Plan texts still read as the same pairs of ends": a plan text is read alike for a sheet and for the tidied sheet.
+abbrev pub PlansKept : Type 0
+PlansKept =
+    (sheet plan : List ℕ) (g h : Graph) → ReadAs sheet g → ReadAs (tidyOutput sheet) h →
+    ReadAlike g h (readSubgraph g (g .edges) plan) (readSubgraph h (h .edges) plan)

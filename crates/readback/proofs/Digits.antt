@@ -1,17 +1,21 @@
--- Laws of a number's digits: how many there are, which is first, and that they read as the number.
+-- Laws of a number's digits: how many there are, which is first, and that they read as the number, also after its sign.
 use mathlib.Core.Path.{_≡_, refl, sym, ap, _∙_}
 use mathlib.Core.Bool.{Bool, true, false}
 use mathlib.Core.List.{List, [], _∷_, _++_}
-use mathlib.Core.Option.{Option, none, some}
+use mathlib.Core.Option.{Option, none, some, Option·map}
 use Prim.Native.Nat.{ℕ, zero, suc, _+_, _*_, _-_, _/_, _%_, _^_, _≤_, _<_}
 use native.Mathlib.Nat.{pow-suc}
 use native.Mathlib.Omega.{arith}
 use lib.Dec.{ltb}
 use borrow.Author.Tests.{lt-ltb, le-ltb, ltb-true, ltb-false, le-leb, ne-eqb}
+use lib.IntN.{ℤ, pos, negsuc}
 use lib.ListN.{length, length-append}
+use Rattle.integers.specs.Integer.{Within}
+use Rattle.graph.specs.Limits.{greatestWeight}
+use Rattle.layout.specs.declared.Rules.{Rules}
 use Rattle.layout.specs.declared.Rules.the-variants.{New}
-use Rattle.layout.specs.Text.{digit, digitsAfter, numeral, padded, natural, digits, decimal}
-use Rattle.layout.proofs.Digits.{after-nil, after-yes, after-no}
+use Rattle.layout.specs.Text.{digit, digitsAfter, numeral, padded, natural, integer, digits, decimal, signed}
+use Rattle.layout.proofs.Digits.{digit-in, after-nil, after-yes, after-no, after-digit, Numeral, numeral-is}
 use Rattle.graph.proofs.Passing.{zero-one}
 
 pub digits-short : (k n : ℕ) → n < 10 → digits (suc k) n ≡ (48 + n) ∷ []
@@ -66,6 +70,15 @@ decimal-some n = go (ltb n 10) refl
     go : (b : Bool) → ltb n 10 ≡ b → 1 ≤ length (decimal n)
     go true is = omega (arith, ap length (digits-short 19 n (ltb-true n 10 is)))
     go false is = omega (arith, ap length (digits-long 19 n (ltb-false n 10 is)), length-append (digits 19 (n / 10)) ((48 + n % 10) ∷ []))
+
+-- With its sign a number has as many digits, and at most one byte more.
+pub signed-few : (j n : ℕ) (z : ℤ) → n < 10 ^ suc j → Within n z → length (signed z) ≤ suc (suc j)
+signed-few j n (pos k) h w = omega (arith, decimal-few j k (omega arith))
+signed-few j n (negsuc k) h w = omega (arith, decimal-few j (suc k) (omega arith))
+
+pub signed-some : (z : ℤ) → 1 ≤ length (signed z)
+signed-some (pos n) = decimal-some n
+signed-some (negsuc n) = omega arith
 
 -- ---- reading them
 
@@ -155,3 +168,29 @@ numeral-back n h =
 pub number-back : (n : ℕ) → n < 10 ^ 9 → natural New (decimal n) ≡ some n
 unfolding natural
 number-back n h = rw (decimal-plain n (omega arith)) (numeral-back n h)
+
+-- ---- a number with its sign
+
+-- The first byte of a numeral is a digit.
+pub numeral-first : (x : ℕ) (w : List ℕ) (n : ℕ) → Numeral (x ∷ w) n → (48 ≤ x) × (x ≤ 57)
+numeral-first x w n N = digit-in x (after-digit 0 x w (N .digits) .0)
+
+-- A numeral by itself is read as it is, by any rules.
+pub integer-plain : (rules : Rules) (w : List ℕ) (n : ℕ) → Numeral w n → integer rules w ≡ Option·map pos (natural rules w)
+unfolding integer
+integer-plain rules [] n N = zero-one (omega (arith, N .some-digits))
+integer-plain rules (x ∷ w) n N =
+    let r = numeral-first x w n N in
+    rw (ne-eqb x 43 (omega (arith, r .0)), ne-eqb x 45 (omega (arith, r .0)))
+
+pub plain-back : (n : ℕ) → n < 10 ^ 9 → integer New (decimal n) ≡ some (pos n)
+plain-back n h =
+    integer-plain New (decimal n) n (numeral-is (decimal n) n (numeral-back n h)) ∙ ap (λ (o : Option ℕ). Option·map pos o) (number-back n h)
+
+pub minus-back : (n : ℕ) → suc n < 10 ^ 9 → integer New (45 ∷ decimal (suc n)) ≡ some (negsuc n)
+unfolding integer
+minus-back n h = rw (number-back (suc n) h, ne-eqb (suc n) 0 (omega arith))
+
+pub signed-back : (z : ℤ) → Within greatestWeight z → integer New (signed z) ≡ some z
+signed-back (pos n) h = plain-back n (omega arith)
+signed-back (negsuc n) h = minus-back n (omega arith)

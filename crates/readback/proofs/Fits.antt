@@ -1,8 +1,8 @@
--- The text of a subgraph fits: each line is short, and the whole has at most 8,256 bytes.
-use mathlib.Core.Path.{_≡_, refl, ap, _∙_}
+-- The texts that are written fit: each line is short, and the whole has at most 8,256 bytes for a subgraph, and 17,472 for a graph.
+use mathlib.Core.Path.{_≡_, refl, ap}
 use mathlib.Core.Bool.{Bool, true, false, cond}
 use mathlib.Core.List.{List, [], _∷_, _++_}
-use Prim.Native.Nat.{ℕ, zero, suc, _+_, _*_, _≤_, _<_}
+use Prim.Native.Nat.{ℕ, _+_, _*_, _≤_, _<_}
 use native.Mathlib.Omega.{arith}
 use lib.Dec.{eqb, lit≤}
 use lib.ListN.{length, length-append}
@@ -11,15 +11,20 @@ use Rattle.integers.proofs.Sum.{sum-mono, sum-const}
 use Rattle.graph.specs.declared.Kind.{Kind}
 use Rattle.graph.specs.declared.Kind.the-variants.{Bipartite, General}
 use Rattle.graph.specs.Refusal.{yields}
-use Rattle.graph.specs.Limits.{subgraphBytes}
-use Rattle.graph.specs.Graph.{Graph, shapeOf, rowAt, columnAt}
+use Rattle.graph.specs.Limits.{greatestWeight, subgraphBytes}
+use Rattle.graph.specs.Graph.{Graph, shapeOf, rowAt, columnAt, weightAt}
 use Rattle.graph.specs.Subgraph.{markAt}
-use Rattle.graph.specs.Passed.{Sound, MarksHold}
-use Rattle.layout.specs.Text.{decimal, spaced, unlines}
-use Rattle.layout.specs.SubgraphText.{chosenLines, headerText, subgraphText, writeSubgraph}
+use Rattle.graph.specs.Passed.{Sound, Passed, MarksHold}
+use Rattle.graph.proofs.Passed.{weight-hold}
+use Rattle.layout.specs.declared.Field.{Field}
+use Rattle.layout.specs.declared.Field.the-variants as Field
+use Rattle.layout.specs.Text.{decimal, signed, spaced, unlines}
+use Rattle.layout.specs.GraphText.{headerText, edgeLine, edgeLines, graphText}
+use Rattle.layout.specs.SubgraphText.{chosenLines, subgraphText, writeSubgraph}
 use Rattle.readback.proofs.Accepted.{Small, small, accepted, text-is}
-use Rattle.readback.proofs.Digits.{decimal-few}
-use Rattle.readback.proofs.Pieces.{unlines-append}
+use Rattle.readback.proofs.Digits.{decimal-few, signed-few}
+use Rattle.readback.proofs.Pieces.{length-line, length-no-line}
+use Rattle.readback.proofs.Growing.{Growing, growing-le}
 
 -- ---- the number of chosen edges
 
@@ -54,31 +59,21 @@ pub size-line-le : (r c n : ℕ) → r ≤ 128 → c ≤ 128 → n ≤ 1024 → 
 size-line-le r c n h k l =
     omega (arith, length-three (decimal r) (decimal c) (decimal n), three-digits r h, three-digits c k, four-digits n l)
 
-pub header-le : (k : Kind) → length (headerText k) ≤ 50
-header-le Bipartite = lit≤ tt
-header-le General = lit≤ tt
+pub header-le : (f : Field) (k : Kind) → length (headerText f k) ≤ 50
+header-le Field.Integer Bipartite = lit≤ tt
+header-le Field.Integer General = lit≤ tt
+header-le Field.Pattern Bipartite = lit≤ tt
+header-le Field.Pattern General = lit≤ tt
 
 -- ---- the text
-
-pub length-line : (l : List ℕ) (ls : List (List ℕ)) → length (unlines (l ∷ ls)) ≡ length l + 1 + length (unlines ls)
-unfolding unlines
-length-line l ls = let e : length (l ++ (10 ∷ unlines ls)) ≡ length l + length (10 ∷ unlines ls) = length-append l (10 ∷ unlines ls) in omega arith
-
-pub length-no-line : length (unlines []) ≡ 0
-unfolding unlines
-length-no-line = refl
 
 -- The lines of one edge: one if it is chosen.
 abbrev pub linesAt : Graph → List ℕ → ℕ → List (List ℕ)
 linesAt g x n = cond (eqb (markAt x n) 1) (spaced (decimal (rowAt g n) ∷ decimal (columnAt g n) ∷ []) ∷ []) []
 
-pub chosen-none : (g : Graph) (x : List ℕ) → chosenLines g x 0 ≡ []
+pub chosen-growing : (g : Graph) (x : List ℕ) → Growing (linesAt g x) (chosenLines g x)
 unfolding chosenLines
-chosen-none g x = refl
-
-pub chosen-more : (g : Graph) (x : List ℕ) (n : ℕ) → chosenLines g x (suc n) ≡ chosenLines g x n ++ linesAt g x n
-unfolding chosenLines
-chosen-more g x n = refl
+chosen-growing g x = record { start = refl; step = λ n. refl }
 
 module _ {g : Graph} (x : List ℕ) (s : Small g) where
   pub line-le : (n : ℕ) → n < g .edges → length (unlines (linesAt g x n)) ≤ 8
@@ -95,17 +90,7 @@ module _ {g : Graph} (x : List ℕ) (s : Small g) where
       go false = omega (arith, length-no-line)
 
   pub chosen-le : (n : ℕ) → n ≤ g .edges → length (unlines (chosenLines g x n)) ≤ n * 8
-  chosen-le zero l = omega (arith, ap (λ (ls : List (List ℕ)). length (unlines ls)) (chosen-none g x), length-no-line)
-  chosen-le (suc n) l =
-      let e : unlines (chosenLines g x (suc n)) ≡ unlines (chosenLines g x n) ++ unlines (linesAt g x n) =
-      ap unlines (chosen-more g x n) ∙ unlines-append (chosenLines g x n) (linesAt g x n) in
-      omega (
-        arith,
-        chosen-le n (omega arith),
-        ap length e,
-        length-append (unlines (chosenLines g x n)) (unlines (linesAt g x n)),
-        line-le n l,
-      )
+  chosen-le n l = growing-le (chosen-growing g x) (g .edges) 8 line-le n l
 
 pub text-le : (g : Graph) (x : List ℕ) → Sound (shapeOf g) (g .row) (g .column) → MarksHold (g .edges) x → length (subgraphText g x) ≤ 8256
 unfolding subgraphText
@@ -113,10 +98,10 @@ text-le g x S M =
     let s : Small g = small g S in
     omega (
       arith,
-      length-line (headerText (g .kind))
+      length-line (headerText Field.Pattern (g .kind))
           (spaced (decimal (g .rows) ∷ decimal (g .columns) ∷ decimal (sum (g .edges) (markAt x)) ∷ []) ∷ chosenLines g x (g .edges)),
       length-line (spaced (decimal (g .rows) ∷ decimal (g .columns) ∷ decimal (sum (g .edges) (markAt x)) ∷ [])) (chosenLines g x (g .edges)),
-      header-le (g .kind),
+      header-le Field.Pattern (g .kind),
       size-line-le (g .rows) (g .columns) (sum (g .edges) (markAt x)) (s .rows-small) (s .columns-small) (omega (arith, s .edges-few, count-le M)),
       chosen-le x s (g .edges) (omega arith),
       s .edges-few,
@@ -127,3 +112,42 @@ pub text-fits : (g : Graph) (x : List ℕ) (n : ℕ) (text : List ℕ) → write
 text-fits g x n text h =
     let a = accepted g x n text h in
     omega (arith, text-le g x (a .passed .sound) (a .marks), ap length (text-is g x n text h))
+
+-- ---- the text of a graph
+
+pub lines-growing : (g : Graph) → Growing (λ n. edgeLine g n ∷ []) (edgeLines g)
+unfolding edgeLines
+lines-growing g = record { start = refl; step = λ n. refl }
+
+module _ {g : Graph} (P : Passed g) where
+  -- The line of an edge has at most 16 bytes: two indices of three digits, and a weight of seven and its sign.
+  pub graph-line-le : (n : ℕ) → n < g .edges → length (edgeLine g n) ≤ 16
+  graph-line-le n l =
+      let s = small g (P .sound) in
+      omega (
+        arith,
+        length-three (decimal (rowAt g n)) (decimal (columnAt g n)) (signed (weightAt g n)),
+        three-digits (rowAt g n) (s .row-small n l),
+        three-digits (columnAt g n) (s .column-small n l),
+        signed-few 6 greatestWeight (weightAt g n) (lit≤ tt) (weight-hold (weightAt g n) (P .weights n l)),
+      )
+
+  pub graph-lines-le : (n : ℕ) → n ≤ g .edges → length (unlines (edgeLines g n)) ≤ n * 17
+  graph-lines-le =
+      growing-le (lines-growing g) (g .edges) 17 (λ n l. omega (arith, length-line (edgeLine g n) [], length-no-line, graph-line-le n l))
+
+  -- The whole text has at most 17,472 bytes, and so a reader takes it.
+  pub graph-text-le : length (graphText g) ≤ 17472
+  unfolding graphText
+  graph-text-le =
+      let s = small g (P .sound) in
+      let sizes = spaced (decimal (g .rows) ∷ decimal (g .columns) ∷ decimal (g .edges) ∷ []) in
+      omega (
+        arith,
+        length-line (headerText Field.Integer (g .kind)) (sizes ∷ edgeLines g (g .edges)),
+        length-line sizes (edgeLines g (g .edges)),
+        header-le Field.Integer (g .kind),
+        size-line-le (g .rows) (g .columns) (g .edges) (s .rows-small) (s .columns-small) (s .edges-few),
+        graph-lines-le (g .edges) (omega arith),
+        s .edges-few,
+      )

@@ -1,7 +1,9 @@
 pub mod Accepted
 pub mod Digits
 pub mod Pieces
-pub mod Fits
 pub mod Reaches
+pub mod Growing
+pub mod Fits
 pub mod ReadBack
+pub mod GraphBack
 pub mod Trace

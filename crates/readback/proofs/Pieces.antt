@@ -6,8 +6,9 @@ use Prim.Native.Nat.{ℕ, zero, suc, _+_, _/_, _%_, _≤_, _<_}
 use native.Mathlib.Omega.{arith}
 use lib.Dec.{ltb, eqb}
 use borrow.Author.Tests.{ltb-true, ne-eqb}
-use lib.ListN.{length}
-use Rattle.layout.specs.Text.{newline, blank, onFirst, pieces, nonEmpty, lines, words, commentLine, digits, decimal, spaced, unlines}
+use lib.IntN.{ℤ, pos, negsuc}
+use lib.ListN.{length, length-append}
+use Rattle.layout.specs.Text.{newline, blank, onFirst, pieces, nonEmpty, lines, words, commentLine, digits, decimal, signed, spaced, unlines}
 use Rattle.graph.proofs.Passing.{zero-one}
 
 -- p holds for no byte of a list, and of no list of a list.
@@ -53,6 +54,14 @@ pub unlines-append : (ks ls : List (List ℕ)) → unlines (ks ++ ls) ≡ unline
 unfolding unlines
 unlines-append [] ls = refl
 unlines-append (k ∷ ks) ls = ap (λ (l : List ℕ). k ++ (10 ∷ l)) (unlines-append ks ls) ∙ sym (append-assoc k (10 ∷ unlines ks) (unlines ls))
+
+pub length-line : (l : List ℕ) (ls : List (List ℕ)) → length (unlines (l ∷ ls)) ≡ length l + 1 + length (unlines ls)
+unfolding unlines
+length-line l ls = let e : length (l ++ (10 ∷ unlines ls)) ≡ length l + length (10 ∷ unlines ls) = length-append l (10 ∷ unlines ls) in omega arith
+
+pub length-no-line : length (unlines []) ≡ 0
+unfolding unlines
+length-no-line = refl
 
 -- ---- words
 
@@ -105,6 +114,19 @@ decimal-no-percent n = digits-free (λ x. eqb x 37) (λ d h. ne-eqb (48 + d) 37 
 
 pub decimal-no-blank : (n : ℕ) → Free blank (decimal n)
 decimal-no-blank n = digits-free blank (λ d h. simp (ne-eqb (48 + d) 32 (omega arith), ne-eqb (48 + d) 9 (omega arith))) 20 n
+
+-- ---- nor have they with a sign before them
+
+module _ (p : ℕ → Bool) (none-of : (n : ℕ) → Free p (decimal n)) (sign : p 45 ≡ false) where
+  pub signed-free : (z : ℤ) → Free p (signed z)
+  signed-free (pos n) = none-of n
+  signed-free (negsuc n) = (sign, none-of (suc n))
+
+pub signed-no-newline : (z : ℤ) → Free newline (signed z)
+signed-no-newline = signed-free newline decimal-no-newline refl
+
+pub signed-no-blank : (z : ℤ) → Free blank (signed z)
+signed-no-blank = signed-free blank decimal-no-blank refl
 
 -- ---- a line that is written out has no byte 10 if a test says so
 

@@ -52,3 +52,12 @@ module _ {H B R : Type 0} (L : Layout H B R) where
   pub reaches-end : (s : State H B) (ls : List (List ℕ)) (b : B) (k : ℕ) → Reaches s ls (reading b) → L .more b ≡ false
       → readLines L k s ls ≡ yields (L .result b)
   reaches-end s ls b k f h = ap (readLines L k s) (sym (append-nil ls)) ∙ f k [] ∙ at-end (k + length ls) b h
+
+  -- A whole text: its header line, its size line, and lines that lead to a state where none is to come.
+  pub reaches-text : (h : H) (b c : B) (k : ℕ) (l n : List ℕ) (ls : List (List ℕ)) → onLine L start l ≡ goes (sizing h) → onLine L (sizing h) n ≡ goes (reading b)
+      → Reaches (reading b) ls (reading c) → L .more c ≡ false → readLines L k start (l ∷ n ∷ ls) ≡ yields (L .result c)
+  reaches-text h b c k l n ls header size rest last =
+      reaches-end start (l ∷ n ∷ ls) c k
+      (reaches-append start (sizing h) (reading c) (l ∷ []) (n ∷ ls) (reaches-one start (sizing h) l header)
+      (reaches-append (sizing h) (reading b) (reading c) (n ∷ []) ls (reaches-one (sizing h) (reading b) n size) rest))
+      last

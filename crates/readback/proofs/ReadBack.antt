@@ -4,7 +4,7 @@ use mathlib.Core.Logic.{_≢_}
 use mathlib.Core.Bool.{Bool, true, false, not, cond, _&&_}
 use mathlib.Core.List.{List, [], _∷_, _++_, append-nil}
 use mathlib.Core.Option.{some}
-use Prim.Native.Nat.{ℕ, zero, suc, _+_, _-_, _^_, _≤_, _<_}
+use Prim.Native.Nat.{ℕ, suc, _+_, _-_, _^_, _≤_, _<_}
 use native.Mathlib.Omega.{arith}
 use lib.Dec.{ltb, leb, eqb}
 use borrow.Author.Tests.{eqb-true, eqb-false, eq-eqb, le-leb, lt-ltb, le-ltb}
@@ -21,20 +21,24 @@ use Rattle.graph.specs.Subgraph.{markAt}
 use Rattle.graph.specs.Tests.{graphLengths, graphTests}
 use Rattle.graph.specs.Passed.{Passed}
 use Rattle.layout.specs.declared.Rules.the-variants.{New}
+use Rattle.layout.specs.declared.Field.{Field}
+use Rattle.layout.specs.declared.Field.the-variants as Field
 use Rattle.layout.specs.Text.{newline, onFirst, pieces, nonEmpty, words, same, sameFolded, headerWords, header, natural, twoWords, threeWords}
-use Rattle.layout.specs.Text.{blankLine, lineFits, noWords, textFits, decimal, spaced, lines}
+use Rattle.layout.specs.Text.{blankLine, commentLine, lineFits, noWords, textFits, decimal, spaced, lines}
 use Rattle.layout.specs.Lines.{Step, goes, stops, start, sizing, reading, onLine, readLines, readText}
 use Rattle.layout.specs.SubgraphText.{subgraphKind, sameKind, subgraphHeader, Marked, subgraphSizes, edgeWith, subgraphMark, subgraphEdge}
-use Rattle.layout.specs.SubgraphText.{subgraphLayout, readSubgraphBy, readSubgraph, chosenLines, headerText, subgraphText, writeSubgraph}
+use Rattle.layout.specs.GraphText.{headerText}
+use Rattle.layout.specs.SubgraphText.{subgraphLayout, readSubgraphBy, readSubgraph, chosenLines, subgraphText, writeSubgraph}
 use Rattle.graph.proofs.Passed.{passed-lengths, passed-tests}
 use Rattle.graph.proofs.Passing.{some-lowest, some-none, pass}
 use Rattle.graph.proofs.Ranges.{_also_}
 use Rattle.readback.proofs.Accepted.{Accepted, Small, small, accepted, text-is, sizes-fewer}
 use Rattle.readback.proofs.Digits.{decimal-some, number-back}
-use Rattle.readback.proofs.Pieces.{Free, AllFree, all-free-append, lines-unlines, words-spaced, free-spaced, comment-free, decimal-no-newline}
+use Rattle.readback.proofs.Pieces.{Free, AllFree, lines-unlines, words-spaced, free-spaced, comment-free, decimal-no-newline}
 use Rattle.readback.proofs.Pieces.{decimal-no-percent, decimal-no-blank, free-yes}
-use Rattle.readback.proofs.Fits.{count-le, edge-line-le, size-line-le, linesAt, chosen-none, chosen-more, text-le}
-use Rattle.readback.proofs.Reaches.{on-start, on-sizing, on-reading, Reaches, reaches-none, reaches-one, reaches-append, reaches-end}
+use Rattle.readback.proofs.Fits.{count-le, edge-line-le, size-line-le, header-le, linesAt, chosen-growing, text-le}
+use Rattle.readback.proofs.Growing.{growing-free, growing-reaches}
+use Rattle.readback.proofs.Reaches.{on-start, on-sizing, on-reading, Reaches, reaches-none, reaches-one, reaches-text}
 
 -- ---- lines of numbers
 
@@ -55,24 +59,37 @@ pub three-back : (r c n : ℕ) → r < 10 ^ 9 → c < 10 ^ 9 → n < 10 ^ 9
 unfolding threeWords
 three-back r c n h k l = rw (three-words r c n, number-back r h, number-back c k, number-back n l)
 
+-- Such a line is no comment, and has no byte 10.
+pub three-plain : (r c n : ℕ) → commentLine (spaced (decimal r ∷ decimal c ∷ decimal n ∷ [])) ≡ false
+three-plain r c n =
+    comment-free (spaced (decimal r ∷ decimal c ∷ decimal n ∷ []))
+    (free-spaced (λ b. eqb b 37) (decimal r ∷ decimal c ∷ decimal n ∷ []) refl
+    (decimal-no-percent r, (decimal-no-percent c, (decimal-no-percent n, tt))))
+
+pub three-free : (r c n : ℕ) → Free newline (spaced (decimal r ∷ decimal c ∷ decimal n ∷ []))
+three-free r c n =
+    free-spaced newline (decimal r ∷ decimal c ∷ decimal n ∷ []) refl
+    (decimal-no-newline r, (decimal-no-newline c, (decimal-no-newline n, tt)))
+
 -- ---- the header
 
 pub same-kind : (k : Kind) → sameKind k k ≡ true
 same-kind Bipartite = refl
 same-kind General = refl
 
-pub header-back : (k : Kind) → subgraphKind (headerText k) ≡ some k
+pub header-back : (k : Kind) → subgraphKind (headerText Field.Pattern k) ≡ some k
 unfolding header headerWords sameFolded same words nonEmpty pieces onFirst
 header-back Bipartite = refl
 header-back General = refl
 
-pub header-short : (k : Kind) → lineFits (headerText k) ≡ true
-header-short Bipartite = refl
-header-short General = refl
+pub header-short : (f : Field) (k : Kind) → lineFits (headerText f k) ≡ true
+header-short f k = le-leb (length (headerText f k)) 1024 (omega (arith, header-le f k))
 
-pub header-free : (k : Kind) → Free newline (headerText k)
-header-free Bipartite = free-yes newline (headerText Bipartite) refl
-header-free General = free-yes newline (headerText General) refl
+pub header-free : (f : Field) (k : Kind) → Free newline (headerText f k)
+header-free Field.Integer Bipartite = free-yes newline (headerText Field.Integer Bipartite) refl
+header-free Field.Integer General = free-yes newline (headerText Field.Integer General) refl
+header-free Field.Pattern Bipartite = free-yes newline (headerText Field.Pattern Bipartite) refl
+header-free Field.Pattern General = free-yes newline (headerText Field.Pattern General) refl
 
 -- ---- the marks so far
 
@@ -197,20 +214,16 @@ module _ {g : Graph} {x : List ℕ} (a : Accepted g x) where
             rw (unchosen-step z) (reaches-none (subgraphLayout New g) (reading (stateAt g x (suc n))))
 
   lines-read : (n : ℕ) → n ≤ g .edges → Reaches (subgraphLayout New g) (reading (stateAt g x 0)) (chosenLines g x n) (reading (stateAt g x n))
-  lines-read zero l = rw (chosen-none g x) (reaches-none (subgraphLayout New g) (reading (stateAt g x 0)))
-  lines-read (suc n) l =
-      rw (chosen-more g x n)
-      (reaches-append (subgraphLayout New g) (reading (stateAt g x 0)) (reading (stateAt g x n)) (reading (stateAt g x (suc n))) (chosenLines g x n)
-      (linesAt g x n) (lines-read n (omega arith)) (step-at n l))
+  lines-read = growing-reaches (chosen-growing g x) (subgraphLayout New g) (g .edges) (λ n. reading (stateAt g x n)) step-at
 
   -- ---- the header line and the size line
 
   abbrev sizeLine : List ℕ
   sizeLine = spaced (decimal (g .rows) ∷ decimal (g .columns) ∷ decimal (countOf g x) ∷ [])
 
-  header-step : onLine (subgraphLayout New g) start (headerText (g .kind)) ≡ goes (sizing tt)
+  header-step : onLine (subgraphLayout New g) start (headerText Field.Pattern (g .kind)) ≡ goes (sizing tt)
   header-step =
-      on-start (subgraphLayout New g) (headerText (g .kind)) tt (header-short (g .kind))
+      on-start (subgraphLayout New g) (headerText Field.Pattern (g .kind)) tt (header-short Field.Pattern (g .kind))
       (ap (subgraphHeader g) (header-back (g .kind)) ∙ ap (λ (t : Bool). cond t (goes tt) (stops Disagreement)) (same-kind (g .kind)))
 
   abbrev sizesRead : Step Marked
@@ -237,50 +250,37 @@ module _ {g : Graph} {x : List ℕ} (a : Accepted g x) where
       (le-leb (length sizeLine) 1024
       (omega (arith, size-line-le (g .rows) (g .columns) (countOf g x) (S .rows-small) (S .columns-small) count-few)))
       (ap noWords (three-words (g .rows) (g .columns) (countOf g x)))
-      (comment-free sizeLine
-      (free-spaced (λ b. eqb b 37) (decimal (g .rows) ∷ decimal (g .columns) ∷ decimal (countOf g x) ∷ []) refl
-      (decimal-no-percent (g .rows), (decimal-no-percent (g .columns), (decimal-no-percent (countOf g x), tt)))))
+      (three-plain (g .rows) (g .columns) (countOf g x))
       size-read
 
   -- ---- the whole text
 
   abbrev textLines : List (List ℕ)
-  textLines = headerText (g .kind) ∷ sizeLine ∷ chosenLines g x (g .edges)
+  textLines = headerText Field.Pattern (g .kind) ∷ sizeLine ∷ chosenLines g x (g .edges)
 
   all-read : readLines (subgraphLayout New g) 1 start textLines ≡ yields x
   all-read =
-      reaches-end (subgraphLayout New g) start textLines (stateAt g x (g .edges)) 1
-      (reaches-append (subgraphLayout New g) start (sizing tt) (reading (stateAt g x (g .edges))) (headerText (g .kind) ∷ [])
-      (sizeLine ∷ chosenLines g x (g .edges))
-      (reaches-one (subgraphLayout New g) start (sizing tt) (headerText (g .kind)) header-step)
-      (reaches-append (subgraphLayout New g) (sizing tt) (reading (stateAt g x 0)) (reading (stateAt g x (g .edges))) (sizeLine ∷ []) (chosenLines g x (g .edges))
-      (reaches-one (subgraphLayout New g) (sizing tt) (reading (stateAt g x 0)) sizeLine size-step)
-      (lines-read (g .edges) (omega arith))))
-      (le-ltb (countOf g x) (countOf g x) (omega arith))
+      reaches-text (subgraphLayout New g) tt (stateAt g x 0) (stateAt g x (g .edges)) 1 (headerText Field.Pattern (g .kind)) sizeLine (chosenLines g x (g .edges))
+      header-step size-step (lines-read (g .edges) (omega arith)) (le-ltb (countOf g x) (countOf g x) (omega arith))
       ∙ ap yields (marks-all (g .edges) x (a .marks .long))
 
   chosen-free : (n : ℕ) → AllFree newline (chosenLines g x n)
-  chosen-free zero = rw (chosen-none g x) tt
-  chosen-free (suc n) = rw (chosen-more g x n) (all-free-append newline (chosenLines g x n) (linesAt g x n) (chosen-free n) (go (eqb (markAt x n) 1)))
+  chosen-free = growing-free (chosen-growing g x) (λ n. go n (eqb (markAt x n) 1))
     where
-      go : (b : Bool) → AllFree newline (cond b (spaced (decimal (rowAt g n) ∷ decimal (columnAt g n) ∷ []) ∷ []) [])
-      go true = (
+      go : (n : ℕ) (b : Bool) → AllFree newline (cond b (spaced (decimal (rowAt g n) ∷ decimal (columnAt g n) ∷ []) ∷ []) [])
+      go n true = (
         free-spaced newline (decimal (rowAt g n) ∷ decimal (columnAt g n) ∷ []) refl
             (decimal-no-newline (rowAt g n), (decimal-no-newline (columnAt g n), tt)),
         tt,
       )
-      go false = tt
+      go n false = tt
 
   lines-of-text : lines (subgraphText g x) ≡ textLines
   unfolding subgraphText
   lines-of-text =
       lines-unlines textLines (
-        header-free (g .kind),
-        (
-          free-spaced newline (decimal (g .rows) ∷ decimal (g .columns) ∷ decimal (countOf g x) ∷ []) refl
-              (decimal-no-newline (g .rows), (decimal-no-newline (g .columns), (decimal-no-newline (countOf g x), tt))),
-          chosen-free (g .edges),
-        ),
+        header-free Field.Pattern (g .kind),
+        (three-free (g .rows) (g .columns) (countOf g x), chosen-free (g .edges)),
       )
 
   -- The text of marks reads as those marks.

@@ -1,55 +1,32 @@
 -- A line is written part by part: names and words with one blank between them, and byte 10 at its end.
 use mathlib.Core.Path.{_≡_, refl, sym, ap, _∙_}
+use mathlib.Core.Logic.{_≢_}
 use mathlib.Core.Bool.{Bool, true, false}
 use mathlib.Core.List.{List, [], _∷_, _++_, append-assoc}
 use Prim.Native.Nat.{ℕ, _+_, _-_, _^_, _≤_, _<_}
 use native.Mathlib.Nat.{zero-add}
 use native.Mathlib.Omega.{arith}
-use borrow.Author.Tests.{le-leb, lt-leb}
-use borrow.Rule.Slice.PartMut.{putMid}
-use lib.Dec.{leb}
-use lib.IntN.{ℤ, pos}
-use lib.ListN.{length, take, drop, set, replicate, length-append, length-replicate}
+use borrow.Author.Tests.{le-leb, lt-leb, eq-eqb, ne-eqb}
+use lib.Dec.{leb, eqb}
+use lib.IntN.{ℤ}
+use lib.ListN.{length, set, replicate, length-append, length-replicate}
 use lib.Seq.{append-snoc}
-use lib.Signed.{ltZ, mag}
+use lib.Signed.{mag}
 use mir.Syntax.{w64}
 use mir.Val.{SFits, hbits}
 use mir.ValLaws.{toZ-ofZ}
-use Rattle.integers.specs.Integer.{up, dn}
 use Rattle.integers.proofs.Order.{back}
 use Rattle.graph.specs.declared.Fault.{Fault}
-use Rattle.graph.specs.Refusal.{numberOf}
+use Rattle.graph.specs.Refusal.{numberOf, filled}
 use Rattle.layout.specs.Text.{bytes, decimal, signed, spaced, unlines}
 use Rattle.writer.specs.Written.{Puts, over}
-use Rattle.writer.proofs.Over.{puts-none, puts-long, puts-byte, puts-then, puts-same, puts-part, over-zeros}
-use Rattle.writer.proofs.Put.{twenty-digits}
+use Rattle.writer.proofs.Over.{puts-long, puts-byte, puts-next, puts-same, over-zeros}
+use Rattle.writer.proofs.Signs.{fromBits}
 use Rattle.report.specs.declared.Source.{Source}
 use Rattle.report.specs.declared.Source.the-variants as Source
-use Rattle.report.specs.Report.{nameOf, refusedLine, composedBytes, composedLength, Composed}
-use Rattle.report.proofs.Signs.{fromBits, signed-below, signed-above}
-
--- Two parts, the second written where the first ends.
-pub puts-next : {d : List ℕ} {at : ℕ} {xs l : List ℕ} {a : ℕ} {ys m : List ℕ} {e : ℕ} → Puts d at xs l a → Puts l a ys m e → e ≤ length d
-    → Puts d at (xs ++ ys) m e
-puts-next p q h = puts-then p q (omega (arith, p .place, q .place))
+use Rattle.report.specs.Report.{nameOf, refusedLine, lineBytes, lineRoom, composedBytes, composedLength, Composed}
 
 -- ---- numbers
-
--- A number, to whose writer the part from `at` on was lent.
-pub natural-put : (d : List ℕ) (at n : ℕ) {l : List ℕ} {k : ℕ} → n < 2 ^ 64 → Puts (take (length d - at) (drop at d)) 0 (decimal n) l k
-    → Puts d at (decimal n) (putMid at (length d - at) d l) (at + k) × (at + k ≤ at + 20)
-natural-put d at n small p = (puts-part d at p, omega (arith, p .place, twenty-digits n small))
-
-module _ (d : List ℕ) (at : ℕ) (z : ℤ) (n : ℕ) {l : List ℕ} {e : ℕ} (f : SFits w64 z) (room : at + 21 ≤ length d)
-    (is : n ≡ up (fromBits z) + dn (fromBits z)) where
-  pub negative-put : ltZ (fromBits z) (pos 0) ≡ true → Puts (set d at 45) (at + 1) (decimal n) l e × (e ≤ at + 1 + 20)
-      → Puts d at (signed z) l e × (e ≤ at + 21)
-  negative-put h (p, k) =
-      let sign : Puts d at (45 ∷ []) (set d at 45) (at + 1) = puts-byte (puts-none d at) 45 (omega arith) in
-      (rw (← toZ-ofZ w64 z f) (puts-same (puts-next sign p (omega arith)) (signed-below (fromBits z) n h is)), omega arith)
-
-  pub positive-put : ltZ (fromBits z) (pos 0) ≡ false → Puts d at (decimal n) l e × (e ≤ at + 20) → Puts d at (signed z) l e × (e ≤ at + 21)
-  positive-put h (p, k) = (rw (← toZ-ofZ w64 z f) (puts-same p (signed-above (fromBits z) n h is)), omega arith)
 
 -- A name and a number.
 pub named-put : (name : List ℕ) (z : ℤ) {d l m : List ℕ} {at a e : ℕ} → SFits w64 z → at + length name + 21 ≤ length d → Puts d at name l a
@@ -184,3 +161,28 @@ other-room rule {text} {before} is also C =
       content = C .content ∙ ap (λ (b : Bool). composedBytes b (length before) text) same;
       size = C .size ∙ ap (λ (b : Bool). composedLength b text) same;
     }
+
+-- ---- a buffer of just k bytes
+
+module _ (k : ℕ) where
+  -- It has another length, and was cleared.
+  pub exact-none : (text : List ℕ) {before after : List ℕ} → length before ≢ k → after ≡ replicate (length before) 0 → Composed (λ n. eqb n k) text before after 0
+  exact-none text {before} wrong cleared =
+      let no = ne-eqb (length before) k wrong in
+      record {
+        content = cleared ∙ ap (λ (b : Bool). composedBytes b (length before) text) (sym no);
+        size = ap (λ (b : Bool). composedLength b text) (sym no);
+      }
+
+  module _ {text before after : List ℕ} {r : ℕ} (long : length before ≡ k) where
+    -- The text fills it, or a line was written to it.
+    pub exact-text : after ≡ filled (length before) 0 text → r ≡ length text → Composed (λ n. eqb n k) text before after r
+    exact-text fills size =
+        let room = eq-eqb (length before) k long in
+        record {
+          content = fills ∙ ap (λ (b : Bool). composedBytes b (length before) text) (sym room);
+          size = size ∙ ap (λ (b : Bool). composedLength b text) (sym room);
+        }
+
+    pub exact-line : lineBytes ≤ k → Composed lineRoom text before after r → Composed (λ n. eqb n k) text before after r
+    exact-line few = other-room (λ n. eqb n k) (le-leb lineBytes (length before) (omega arith)) (eq-eqb (length before) k long)

@@ -17,6 +17,7 @@ use Rattle.layout.specs.declared.Numbers.the-variants.{Bounds, Prices}
 use Rattle.layout.specs.GraphText.{readGraph}
 use Rattle.layout.specs.NumberText.{readNumbers}
 use Rattle.layout.specs.SubgraphText.{readSubgraph, subgraphText}
+use Rattle.layout.specs.TidyText.{tidyGraph}
 use Rattle.dual.specs.declared.Measures.{Measures}
 use Rattle.dual.specs.Measure.{measure}
 use Rattle.dual.specs.Solve.{Lent, solve, withoutSets}
@@ -122,3 +123,15 @@ pub record SolveComposed (sheet limits before after : List ℕ) (r : ℕ) : Type
 -- `rewrite` composes in a buffer of at least 32,768 bytes: what it writes is `rewriteOutput` of the text of old.mtx (layout, Rewrite.antt).
 abbrev pub textRoom : ℕ → Bool
 textRoom n = leb longestText n
+
+-- `tidy` reads sheet.mtx, and lends the call that tidies its graph 32,768 bytes.
+abbrev pub tidyRun : Graph → Run (List ℕ)
+tidyRun g = cameFrom Source.Input (tidyGraph g longestText)
+
+-- What `tidy` writes.
+unfoldable pub tidyOutput : List ℕ → List ℕ
+tidyOutput sheet = written (λ text. text) (andThen (cameFrom Source.Sheet (readGraph mostEdges mostEdges mostEdges sheet)) tidyRun)
+
+-- It composes in a buffer of just 32,768 bytes.
+abbrev pub tidyRoom : ℕ → Bool
+tidyRoom n = eqb n longestText

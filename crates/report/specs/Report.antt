@@ -1,4 +1,4 @@
--- The lines that `solve` and `mark` write.
+-- The lines that programs write: that of a refusal, and that of a measuring.
 use Prim.Native.Nat.{ℕ}
 use mathlib.Core.Path.{_≡_}
 use mathlib.Core.Bool.{Bool, cond}

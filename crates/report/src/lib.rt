@@ -1,14 +1,14 @@
-// What `solve` and `mark` write: the line of a refusal, and the line of a measuring.
+// What programs write: the line of a refusal, and the line of a measuring.
 use dual::Measures;
 use graph::Refusal;
 use writer::put_bytes;
-use writer::put_number;
+use writer::put_natural;
+use writer::put_signed;
 ghost use mathlib.Core.Path.{_≡_};
 ghost use mathlib.Core.List.{_++_};
 ghost use Prim.Native.Nat.{_+_, _≤_};
 ghost use lib.ListN.{length};
-ghost use Rattle.integers.specs.Integer.{up, dn};
-ghost use Rattle.layout.specs.Text.{decimal, signed};
+ghost use Rattle.layout.specs.Text.{signed};
 ghost use Rattle.writer.specs.Written.{Puts};
 ghost use Rattle.report.specs.Report.{nameOf, refusedLine, measuredLine, lineBytes, lineRoom, Composed};
 
@@ -22,39 +22,6 @@ pub enum Source {
     Plan,
     Prices,
     Input,
-}
-
-// A number without its sign. Before it is negated, z below 0 is raised by 1, so that the least number has a magnitude too.
-fn magnitude(z: i64) -> u64
-    ensures { λ r. ⌜ r ≡ up z + dn z ⌝ }
-{
-    if z < 0 {
-        (-(z + 1)) as u64 + 1
-    } else {
-        z as u64
-    }
-}
-
-// Writes the digits of n from `at` on. The result is the place after them.
-fn put_natural(out: &mut [u8], at: usize, n: u64) -> usize
-    requires { ⌜ at + 20 ≤ length (now out) ⌝ }
-    ensures { λ r. ⌜ Puts (now (out .entry)) at (decimal n) (now (out .exit)) r × (r ≤ at + 20) ⌝ }
-{
-    at + put_number(&mut out[at..], n)
-}
-
-// Writes z from `at` on, with - before a number below 0. The result is the place after it.
-pub fn put_signed(out: &mut [u8], at: usize, z: i64) -> usize
-    requires { ⌜ at + 21 ≤ length (now out) ⌝ }
-    ensures { λ r. ⌜ Puts (now (out .entry)) at (signed z) (now (out .exit)) r × (r ≤ at + 21) ⌝ }
-{
-    let n = magnitude(z);
-    if z < 0 {
-        out[at] = 45;
-        put_natural(out, at + 1, n)
-    } else {
-        put_natural(out, at, n)
-    }
 }
 
 // Writes a name, with the blanks at its sides, and z after it, from `at` on. The result is the place after both.

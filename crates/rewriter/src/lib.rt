@@ -28,7 +28,7 @@ fn put_word(out: &mut [u8], at: usize, w: &[u8]) -> usize
         return put_bytes(out, at, w);
     };
     let mut number = [0u8; NUMBER_BYTES];
-    let k = report::put_signed(&mut number, 0, z as i64);
+    let k = writer::put_signed(&mut number, 0, z as i64);
     put_bytes(out, at, &number[..k])
 }
 

@@ -11,11 +11,10 @@ use lib.ListN.{length}
 use lib.Seq.{append-snoc}
 use borrow.Author.Tests.{le-leb, eqb-true, eqb-false, ne-eqb}
 use Rattle.graph.proofs.Passing.{zero-one}
-use Rattle.layout.specs.declared.Rules.{Rules}
 use Rattle.layout.specs.declared.Rules.the-variants.{New, Old}
 use Rattle.layout.specs.Text.{digitsAfter, numeral, padded, natural, aboveZero, integer, decimal, signed}
 use Rattle.layout.proofs.Digits.{absent, digit-in, after-digit, after-end, after-least, Numeral, numeral-is, below-length, numeral-small}
-use Rattle.readback.proofs.Digits.{decimal-short, decimal-long, decimal-few, numeral-back, number-back}
+use Rattle.readback.proofs.Digits.{decimal-short, decimal-long, decimal-few, number-back, numeral-first, integer-plain, plain-back, minus-back}
 
 -- Digits that are written after those of a number other than 0 make the digits of the whole.
 after-written : (ds : List ℕ) (n m : ℕ) → 1 ≤ n → m < 10 ^ 9 → digitsAfter n ds ≡ some m → decimal n ++ ds ≡ decimal m
@@ -43,10 +42,6 @@ module _ {w : List ℕ} {n : ℕ} (N : Numeral w n) where
       go : (k : ℕ) → 1 ≤ k → n < 10 ^ k → length (decimal n) ≤ k
       go zero h l = zero-one (omega arith)
       go (suc k) h l = decimal-few k n l
-
--- Its first byte is a digit.
-pub numeral-first : (x : ℕ) (w : List ℕ) (n : ℕ) → Numeral (x ∷ w) n → (48 ≤ x) × (x ≤ 57)
-numeral-first x w n N = digit-in x (after-digit 0 x w (N .digits) .0)
 
 -- Without a leading zero it is the number as it is written.
 pub numeral-written : (w : List ℕ) (n : ℕ) → padded w ≡ false → Numeral w n → w ≡ decimal n
@@ -92,14 +87,6 @@ mapped : {A B : Type 0} (f : A → B) (o : Option A) (b : B) → Option·map f o
 mapped f none b e = absent e
 mapped f (some a) b e = (a, refl, let q : b ≡ f a = cc in q)
 
--- A numeral by itself is read as it is, by any rules.
-integer-plain : (rules : Rules) (w : List ℕ) (n : ℕ) → Numeral w n → integer rules w ≡ Option·map pos (natural rules w)
-unfolding integer
-integer-plain rules [] n N = zero-one (omega (arith, N .some-digits))
-integer-plain rules (x ∷ w) n N =
-    let r = numeral-first x w n N in
-    rw (ne-eqb x 43 (omega (arith, r .0)), ne-eqb x 45 (omega (arith, r .0)))
-
 pub old-way : (w : List ℕ) (z : ℤ) → integer Old w ≡ some z → Way w z
 unfolding integer
 old-way [] z e = absent e
@@ -121,21 +108,12 @@ old-way (x ∷ w) z e = go (eqb x 43) refl (eqb x 45) refl e
         rw (eqb-true x 45 is′) (minus (numeral-is w (m .0) (sym (natural-old w) ∙ m .1)) (m .2))
     go false is false is′ e = by-itself e
 
--- A number as it is written is read by any rules as that number.
-number-read : (n : ℕ) → n < 10 ^ 9 → integer New (decimal n) ≡ some (pos n)
-number-read n h =
-    integer-plain New (decimal n) n (numeral-is (decimal n) n (numeral-back n h)) ∙ ap (λ (o : Option ℕ). Option·map pos o) (number-back n h)
-
-minus-read : (n : ℕ) → suc n < 10 ^ 9 → integer New (45 ∷ decimal (suc n)) ≡ some (negsuc n)
-unfolding integer
-minus-read n h = rw (number-back (suc n) h, ne-eqb (suc n) 0 (omega arith))
-
 -- What the old rules take is read again, as it is written, by the new ones, and is no longer than it was.
 pub old-read : {w : List ℕ} {z : ℤ} → Way w z → integer New (signed z) ≡ some z
-old-read (plus N) = number-read _ (numeral-small N)
-old-read (minus {n = zero} N is) = rw is (number-read 0 (numeral-small N))
-old-read (minus {n = suc n} N is) = rw is (minus-read n (numeral-small N))
-old-read (plain N) = number-read _ (numeral-small N)
+old-read (plus N) = plain-back _ (numeral-small N)
+old-read (minus {n = zero} N is) = rw is (plain-back 0 (numeral-small N))
+old-read (minus {n = suc n} N is) = rw is (minus-back n (numeral-small N))
+old-read (plain N) = plain-back _ (numeral-small N)
 
 pub old-long : {w : List ℕ} {z : ℤ} → Way w z → length (signed z) ≤ length w
 old-long (plus N) = omega (arith, numeral-long N)

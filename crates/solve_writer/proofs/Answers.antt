@@ -1,14 +1,13 @@
 -- What a solved or refused problem leaves is what `solve` writes.
 use Prim.Native.Nat.{ℕ, _-_, _≤_}
 use mathlib.Core.Path.{_≡_, refl, sym, ap, _∙_, subst}
-use mathlib.Core.Bool.{Bool}
 use mathlib.Core.Logic.{_≢_}
 use mathlib.Core.List.{List, [], _++_}
 use native.Mathlib.Omega.{arith}
 use lib.IntN.{ℤ, pos}
-use lib.ListN.{length, take, replicate, length-replicate}
+use lib.ListN.{length, take, replicate}
 use lib.Seq.{take-at}
-use borrow.Author.Tests.{le-leb, eq-eqb, ne-eqb}
+use borrow.Author.Tests.{ne-eqb}
 use Rattle.graph.specs.declared.Fault.{Fault}
 use Rattle.graph.specs.declared.IndexAnswer.{IndexAnswer}
 use Rattle.graph.specs.declared.IndexAnswer.the-variants as IndexAnswer
@@ -30,19 +29,16 @@ use Rattle.duality.proofs.Passed.{solve-passed}
 use Rattle.writer.specs.Written.{Written}
 use Rattle.report.specs.declared.Source.{Source}
 use Rattle.report.specs.declared.Source.the-variants as Source
-use Rattle.report.specs.Report.{refusedLine, lineRoom, composedBytes, composedLength, Composed}
+use Rattle.report.specs.Report.{refusedLine, lineRoom, Composed}
 use Rattle.report.specs.Programs.{Run, has, ends, cameFrom, andThen, written, Problem, problemOf, lentFor, solveIndexed, solveProblem, solveOutput, subgraphRoom}
 use Rattle.report.specs.Programs.{SolveComposed}
-use Rattle.report.proofs.Parts.{composed-inside, other-room}
+use Rattle.report.proofs.Parts.{composed-inside, exact-none, exact-text, exact-line}
 use Rattle.problem_reader.proofs.Kept.{reported-yields, reported-refuses}
-use Rattle.problem_reader.proofs.Lent.{first-long, storedGraph, Stored}
+use Rattle.lent.proofs.Parts.{zeros-lent}
+use Rattle.problem_reader.proofs.Lent.{storedGraph, Stored}
 use Rattle.solve_writer.specs.Solution.{Solution}
 
 -- ---- what is lent
-
--- The first k numbers of an array of zeros.
-pub zeros-lent : {N : Type 0} (z : N) (n : ℕ) {k : ℕ} → k ≤ n → k ≡ length (take k (replicate n z))
-zeros-lent z n {k} room = first-long k (replicate n z) (omega (arith, length-replicate n z))
 
 -- The arrays that marks and prices are lent from.
 abbrev pub noMarks : List ℕ
@@ -65,7 +61,7 @@ all-lent g {n} sizes all =
 
 -- A line that was written to a buffer of 16,384 bytes.
 pub line-kept : {text before after : List ℕ} {r : ℕ} → length before ≡ 16384 → Composed lineRoom text before after r → Composed subgraphRoom text before after r
-line-kept {before = before} long = other-room subgraphRoom (le-leb 256 (length before) (omega arith)) (eq-eqb (length before) 16384 long)
+line-kept long = exact-line 16384 long (omega arith)
 
 -- The solver is lent what the graph gives, and has answered a.
 module _ (g : Graph) (bound : List ℤ) (index : List ℕ) {L : Lent} (lent : L ≡ lentFor g) {a : SolveAnswer} (says : solveSays a ≡ told (solve g bound index L)) where
@@ -105,15 +101,8 @@ module _ (g : Graph) (bound : List ℤ) (index : List ℕ) {L : Lent} (lent : L 
     marks-hold = record { long = optimal .feasible .long; each = optimal .feasible .marks }
 
     -- Its text was written.
-    text-composed : {before after : List ℕ} {r : ℕ} → length before ≡ 16384 → Written g x after r → Composed subgraphRoom (subgraphText g x) before after r
-    text-composed {before} long W =
-        let room = eq-eqb (length before) 16384 long in
-        record {
-          content =
-              W .text ∙ ap (λ n. filled n 0 (subgraphText g x)) (sym long)
-              ∙ ap (λ (b : Bool). composedBytes b (length before) (subgraphText g x)) (sym room);
-          size = W .size ∙ ap (λ (b : Bool). composedLength b (subgraphText g x)) (sym room);
-        }
+    text-composed : {before after : List ℕ} {r : ℕ} → length before ≡ 16384 → Written 16384 (subgraphText g x) after r → Composed subgraphRoom (subgraphText g x) before after r
+    text-composed long W = exact-text 16384 long (W .text ∙ ap (λ n. filled n 0 (subgraphText g x)) (sym long)) (W .size)
 
     -- Its marks stand in the part of an array that was lent, and are written from there.
     module _ (rest : List ℕ) where
@@ -123,12 +112,12 @@ module _ (g : Graph) (bound : List ℤ) (index : List ℕ) {L : Lent} (lent : L 
       pub part-marks : MarksHold (g .edges) (take (g .edges) (x ++ rest))
       part-marks = subst (MarksHold (g .edges)) (sym part) marks-hold
 
-      pub part-written : {before after : List ℕ} {r : ℕ} → length before ≡ 16384 → Written g (take (g .edges) (x ++ rest)) after r
+      pub part-written : {before after : List ℕ} {r : ℕ} → length before ≡ 16384 → Written 16384 (subgraphText g (take (g .edges) (x ++ rest))) after r
           → Solution g bound (solveIndexed g bound index) before after r
       part-written {after = after} {r = r} long w = record {
         chosen = x;
         optimal = λ e. optimal;
-        composed = ends-with (yields tt) x is refl (text-composed long (subst (λ (y : List ℕ). Written g y after r) part w));
+        composed = ends-with (yields tt) x is refl (text-composed long (subst (λ (y : List ℕ). Written 16384 (subgraphText g y) after r) part w));
       }
 
 -- ---- the index
@@ -224,9 +213,6 @@ nothing-written sheet limits {before} wrong cleared =
       record {
         chosen = [];
         picked = λ room. let e = sym no-room ∙ room in zero-one (cc);
-        composed = record {
-          content = cleared ∙ ap (λ (b : Bool). composedBytes b (length before) (solveOutput sheet limits [])) (sym no-room);
-          size = ap (λ (b : Bool). composedLength b (solveOutput sheet limits [])) (sym no-room);
-        };
+        composed = exact-none 16384 (solveOutput sheet limits []) wrong cleared;
       },
     )

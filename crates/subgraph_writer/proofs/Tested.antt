@@ -9,7 +9,7 @@ use lib.ListN.{length}
 use borrow.Author.Tests.{eqb-true}
 use Rattle.graph.specs.declared.Fault.the-variants.{LentLength, Mark}
 use Rattle.graph.specs.declared.Refusal.{Refusal}
-use Rattle.graph.specs.Refusal.{Outcome, yields, refuses, tells, told, once, lowest, passing, reported, output}
+use Rattle.graph.specs.Refusal.{Outcome, yields, refuses, once, lowest, passing}
 use Rattle.graph.specs.Graph.{Graph}
 use Rattle.graph.specs.Subgraph.{markAt}
 use Rattle.graph.specs.Tests.{graphLengths, graphTests, markTest}
@@ -25,7 +25,6 @@ use Rattle.checks.proofs.Scan.{says}
 use Rattle.lent.proofs.Lengths.{lent-passed}
 use Rattle.layout.specs.SubgraphText.{subgraphText, writerTests, writeSubgraph}
 use Rattle.readback.proofs.Accepted.{Accepted, numberTests, writes, accepted}
-use Rattle.writer.specs.Written.{Written}
 
 -- That all tests have passed.
 abbrev pub noted : Outcome (Unit {0})
@@ -103,13 +102,3 @@ module _ (g : Graph) (x : List ℕ) (n : ℕ) where
 
       pub fits : Accepted g x
       fits = accepted g x n (subgraphText g x) yielded
-
-      module _ {after : List ℕ} {k : ℕ} (written : Written g x after k) where
-        pub answered : tells k ≡ told (reported length (writeSubgraph g x n))
-        answered = ap tells (written .size) ∙ sym (ap (λ (o : Outcome (List ℕ)). told (reported length o)) yielded)
-
-        pub filled-in : after ≡ output n 0 (λ t. t) (writeSubgraph g x n)
-        filled-in =
-            written .text
-            ∙ ap (λ m. output {A = List ℕ} m 0 (λ t. t) (yields (subgraphText g x))) (sym size)
-            ∙ sym (ap (output n 0 (λ t. t)) yielded)

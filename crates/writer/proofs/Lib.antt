@@ -1,4 +1,7 @@
 pub mod Over
 pub mod Put
+pub mod Signs
+pub mod Writing
 pub mod Lines
 pub mod Subgraph
+pub mod Answered

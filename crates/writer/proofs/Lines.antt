@@ -1,5 +1,5 @@
 -- What the writers of lines write: a number and a blank, a line of two numbers, the size line, the header line, and the line of an edge.
-use mathlib.Core.Path.{_≡_, refl, sym, ap, _∙_}
+use mathlib.Core.Path.{_≡_, refl, sym, ap, ap₂, _∙_}
 use mathlib.Core.List.{List, [], _∷_, _++_, append-assoc}
 use Prim.Native.Nat.{ℕ, _+_, _-_, _^_, _≤_, _<_}
 use native.Mathlib.Omega.{arith}
@@ -7,12 +7,14 @@ use borrow.Author.Tests.{eq-eqb, ne-eqb}
 use borrow.Rule.Slice.PartMut.{putMid}
 use lib.ListN.{length, take, drop, set, replicate, length-append, length-replicate, length-set}
 use Rattle.graph.specs.declared.Kind.{Kind}
-use Rattle.graph.specs.declared.Kind.the-variants.{Bipartite, General}
-use Rattle.layout.specs.Text.{bytes, decimal, spaced, unlines}
-use Rattle.layout.specs.SubgraphText.{headerText}
-use Rattle.readback.proofs.Pieces.{unlines-append}
-use Rattle.readback.proofs.Fits.{length-two, length-three, length-line, length-no-line, header-le}
-use Rattle.writer.specs.Written.{Puts, edgeLines}
+use Rattle.graph.specs.declared.Shape.{Shape}
+use Rattle.graph.specs.Passed.{SizesHold}
+use Rattle.layout.specs.declared.Field.{Field}
+use Rattle.layout.specs.Text.{decimal, spaced, unlines}
+use Rattle.layout.specs.GraphText.{headerText}
+use Rattle.readback.proofs.Pieces.{unlines-append, length-line, length-no-line}
+use Rattle.readback.proofs.Fits.{length-two, length-three, header-le, size-line-le}
+use Rattle.writer.specs.Written.{Puts, headLines, edgeLines}
 use Rattle.writer.proofs.Over.{puts-none, puts-long, puts-byte, puts-then, puts-same, part-long, puts-part}
 use Rattle.writer.proofs.Put.{ten-digits}
 
@@ -55,28 +57,28 @@ blank-le : (m : ℕ) → m < 2 ^ 32 → length (decimal m ++ (32 ∷ [])) ≤ 11
 blank-le m h = omega (arith, length-append (decimal m) (32 ∷ []), ten-digits m h)
 
 -- After the number, of k digits, d is l; then the blank is set.
-pub record Field (d : List ℕ) (at m : ℕ) (l : List ℕ) (k : ℕ) : Type 0 where
+pub record Number (d : List ℕ) (at m : ℕ) (l : List ℕ) (k : ℕ) : Type 0 where
   pub short : k ≤ 10
   pub long : length l ≡ length d
   pub blanked : length (set l (at + k) 32) ≡ length d
   pub puts : Puts d at (decimal m ++ (32 ∷ [])) (set l (at + k) 32) (at + k + 1)
 
-pub field : (d : List ℕ) (at m : ℕ) {ys : List ℕ} {k : ℕ} → at + 10 < length d → m < 2 ^ 32 → Puts (take (length d - at) (drop at d)) 0 (decimal m) ys k
-    → Field d at m (putMid at (length d - at) d ys) k
-field d at m {ys} {k} room small p =
-    let number : Puts d at (decimal m) (putMid at (length d - at) d ys) (at + k) = puts-part d at p in
-    let long : length (putMid at (length d - at) d ys) ≡ length d = puts-long number (omega (arith, ten-digits m small)) in
+pub number : (d : List ℕ) (at m : ℕ) {ys : List ℕ} {k : ℕ} → at + 10 < length d → m < 2 ^ 32 → Puts (take (length d - at) (drop at d)) 0 (decimal m) ys k
+    → Number d at m (putMid at (length d - at) d ys) k
+number d at m {ys} {k} room small p =
+    let written : Puts d at (decimal m) (putMid at (length d - at) d ys) (at + k) = puts-part d at p in
+    let long : length (putMid at (length d - at) d ys) ≡ length d = puts-long written (omega (arith, ten-digits m small)) in
     record {
       short = omega (arith, p .place, ten-digits m small);
       long = long;
       blanked = length-set (putMid at (length d - at) d ys) (at + k) 32 ∙ long;
-      puts = puts-byte number 32 (omega (arith, ten-digits m small));
+      puts = puts-byte written 32 (omega (arith, ten-digits m small));
     }
 
 -- There is room for another number after the blank.
-pub field-room : {d : List ℕ} {at m : ℕ} {l : List ℕ} {k : ℕ} → Field d at m l k → at + 31 ≤ length d
+pub number-room : {d : List ℕ} {at m : ℕ} {l : List ℕ} {k : ℕ} → Number d at m l k → at + 31 ≤ length d
     → 20 ≤ length (take (length (set l (at + k) 32) - (at + k + 1)) (drop (at + k + 1) (set l (at + k) 32)))
-field-room {at = at} {l = l} {k = k} f h = omega (arith, part-long (set l (at + k) 32) (at + k + 1), f .blanked, f .short)
+number-room {at = at} {l = l} {k = k} f h = omega (arith, part-long (set l (at + k) 32) (at + k + 1), f .blanked, f .short)
 
 -- ---- a line of two numbers
 
@@ -86,7 +88,7 @@ pub record Pair (d : List ℕ) (at m n : ℕ) (l : List ℕ) (e : ℕ) : Type 0 
   pub long : length l ≡ length d
   pub puts : Puts d at (unlines (spaced (decimal m ∷ decimal n ∷ []) ∷ [])) (set l e 10) (e + 1)
 
-pub pair : {d : List ℕ} {at m n : ℕ} {l zs : List ℕ} {k j : ℕ} → at + 32 ≤ length d → m < 2 ^ 32 → n < 2 ^ 32 → Field d at m l k
+pub pair : {d : List ℕ} {at m n : ℕ} {l zs : List ℕ} {k j : ℕ} → at + 32 ≤ length d → m < 2 ^ 32 → n < 2 ^ 32 → Number d at m l k
     → Puts (take (length (set l (at + k) 32) - (at + k + 1)) (drop (at + k + 1) (set l (at + k) 32))) 0 (decimal n) zs j
     → Pair d at m n (putMid (at + k + 1) (length (set l (at + k) 32) - (at + k + 1)) (set l (at + k) 32) zs) (at + k + 1 + j)
 pair {d} {at} {m} {n} {l} {zs} {k} {j} room hm hn f q =
@@ -113,32 +115,44 @@ sizes-put {m = m} {n = n} {o = o} room hm hn ho p q =
 
 -- ---- the header line, and both
 
-header-line-le : (k : Kind) → length (unlines (headerText k ∷ [])) ≤ 51
-header-line-le k = omega (arith, length-line (headerText k) [], length-no-line, header-le k)
+header-line-le : (f : Field) (k : Kind) → length (unlines (headerText f k ∷ [])) ≤ 51
+header-line-le f k = omega (arith, length-line (headerText f k) [], length-no-line, header-le f k)
 
 -- The header line as it stands in the code.
-pub header-bipartite : {d after : List ℕ} {e : ℕ} (k : Kind) → k ≡ Bipartite
-    → Puts d 0 (bytes "%%MatrixMarket matrix coordinate pattern general\n") after e → Puts d 0 (unlines (headerText k ∷ [])) after e
+header-end : (f : Field) (k : Kind) → unlines (headerText f k ∷ []) ≡ headerText f k ++ (10 ∷ [])
 unfolding unlines
-header-bipartite k h p = puts-same p (ap (λ (j : Kind). unlines (headerText j ∷ [])) (sym h))
+header-end f k = refl
 
-pub header-general : {d after : List ℕ} {e : ℕ} (k : Kind) → k ≡ General
-    → Puts d 0 (bytes "%%MatrixMarket matrix coordinate pattern symmetric\n") after e → Puts d 0 (unlines (headerText k ∷ [])) after e
-unfolding unlines
-header-general k h p = puts-same p (ap (λ (j : Kind). unlines (headerText j ∷ [])) (sym h))
+pub header-put : {d after : List ℕ} {e : ℕ} (f : Field) (k : Kind) {f′ : Field} {k′ : Kind} → f ≡ f′ → k ≡ k′
+    → Puts d 0 (headerText f′ k′ ++ (10 ∷ [])) after e → Puts d 0 (unlines (headerText f k ∷ [])) after e
+header-put f k {f′} {k′} i j p = puts-same p (sym (ap₂ (λ (a : Field) (b : Kind). unlines (headerText a b ∷ [])) i j ∙ header-end f′ k′))
 
-pub header-at : {d after : List ℕ} {e : ℕ} (k : Kind) → Puts d 0 (unlines (headerText k ∷ [])) after e → e ≤ 51
-header-at k p = omega (arith, p .place, header-line-le k)
+pub header-at : {d after : List ℕ} {e : ℕ} (f : Field) (k : Kind) → Puts d 0 (unlines (headerText f k ∷ [])) after e → e ≤ 51
+header-at f k p = omega (arith, p .place, header-line-le f k)
 
-pub head-puts : (d : List ℕ) {d₁ d₂ d₃ : List ℕ} {a e : ℕ} (k : Kind) (m n o : ℕ) → 128 ≤ length d → m < 2 ^ 32 → n < 2 ^ 32 → o < 2 ^ 32
-    → d₁ ≡ replicate (length d) 0 → Puts d₁ 0 (unlines (headerText k ∷ [])) d₂ a
-    → Puts d₂ a (unlines (spaced (decimal m ∷ decimal n ∷ decimal o ∷ []) ∷ [])) d₃ e
-    → Puts (replicate (length d) 0) 0 (unlines (headerText k ∷ spaced (decimal m ∷ decimal n ∷ decimal o ∷ []) ∷ [])) d₃ e
-head-puts d {d₁} k m n o room hm hn ho zeros p q =
+-- Both lines of a graph that has passed have at most 64 bytes.
+pub head-le : (f : Field) (s : Shape) (count : ℕ) → SizesHold (s .kind) (s .rows) (s .columns) (s .edges) → count ≤ 1024
+    → length (unlines (headLines f s count)) ≤ 64
+head-le f s count S few =
+    let sizes = spaced (decimal (s .rows) ∷ decimal (s .columns) ∷ decimal count ∷ []) in
+    omega (
+      arith,
+      length-line (headerText f (s .kind)) (sizes ∷ []),
+      length-line sizes [],
+      length-no-line,
+      header-le f (s .kind),
+      size-line-le (s .rows) (s .columns) count (S .rows .greatest) (S .columns .greatest) few,
+    )
+
+pub head-puts : (d : List ℕ) {d₁ d₂ d₃ : List ℕ} {a e : ℕ} (f : Field) (s : Shape) (o : ℕ) → 128 ≤ length d → s .rows < 2 ^ 32 → s .columns < 2 ^ 32 → o < 2 ^ 32
+    → d₁ ≡ replicate (length d) 0 → Puts d₁ 0 (unlines (headerText f (s .kind) ∷ [])) d₂ a
+    → Puts d₂ a (unlines (spaced (decimal (s .rows) ∷ decimal (s .columns) ∷ decimal o ∷ []) ∷ [])) d₃ e
+    → Puts (replicate (length d) 0) 0 (unlines (headLines f s o)) d₃ e
+head-puts d {d₁} f s o room hm hn ho zeros p q =
     let long : length d₁ ≡ length d = ap length zeros ∙ length-replicate (length d) 0 in
     rw (← zeros)
-    (puts-same (puts-then p q (omega (arith, header-line-le k, three-le m n o hm hn ho)))
-    (sym (unlines-append (headerText k ∷ []) (spaced (decimal m ∷ decimal n ∷ decimal o ∷ []) ∷ []))))
+    (puts-same (puts-then p q (omega (arith, header-line-le f (s .kind), three-le (s .rows) (s .columns) o hm hn ho)))
+    (sym (unlines-append (headerText f (s .kind) ∷ []) (spaced (decimal (s .rows) ∷ decimal (s .columns) ∷ decimal o ∷ []) ∷ []))))
 
 -- ---- the line of an edge
 

@@ -7,7 +7,7 @@ use native.Mathlib.Omega.{arith}
 use borrow.Rule.Slice.PartMut.{putMid, postOf}
 use lib.ListN.{length, take, drop, getD, set, replicate, length-append, length-drop, drop-of-length-le, take-append-drop}
 use lib.Seq.{drop-cons, drop-drop, set-at, length-take-le, take-at, take-all, drop-append-add, append-snoc}
-use Rattle.writer.specs.Written.{over, Puts}
+use Rattle.writer.specs.Written.{over, Puts, Written}
 
 module _ (d : List ℕ) (at : ℕ) (xs : List ℕ) where
   over-is : over d at xs ≡ (take at d ++ xs) ++ drop (at + length xs) d
@@ -101,6 +101,11 @@ module _ {d : List ℕ} {at : ℕ} {xs after : List ℕ} {e : ℕ} (p : Puts d a
   pub puts-same : {ys : List ℕ} → xs ≡ ys → Puts d at ys after e
   puts-same h = rw (← h) p
 
+-- Two parts, the second written where the first ends.
+pub puts-next : {d : List ℕ} {at : ℕ} {xs l : List ℕ} {a : ℕ} {ys m : List ℕ} {e : ℕ} → Puts d at xs l a → Puts l a ys m e → e ≤ length d
+    → Puts d at (xs ++ ys) m e
+puts-next p q h = puts-then p q (omega (arith, p .place, q .place))
+
 -- ---- a part that was lent from `at` on, and is back
 
 pub part-is : {N : Type 0} (d : List N) (at : ℕ) → take (length d - at) (drop at d) ≡ drop at d
@@ -136,3 +141,18 @@ drop-zeros z (suc k) (suc n) = let e : n - k ≡ suc n - suc k = omega arith in 
 pub over-zeros : (n : ℕ) (xs : List ℕ) → over (replicate n 0) 0 xs ≡ xs ++ replicate (n - length xs) 0
 unfolding over
 over-zeros n xs = ap (λ (l : List ℕ). xs ++ l) (ap (λ (k : ℕ). drop k (replicate n 0)) (zero-add (length xs)) ∙ drop-zeros 0 (length xs) n)
+
+pub zeros-written : {n : ℕ} {xs after : List ℕ} {e : ℕ} → Puts (replicate n 0) 0 xs after e → Written n xs after e
+zeros-written {n} {xs} p = record { text = p .text ∙ over-zeros n xs; size = omega (arith, p .place) }
+
+-- ---- written over all of d
+
+over-all : (d xs : List ℕ) → length d ≤ length xs → over d 0 xs ≡ xs
+unfolding over
+over-all d xs h =
+    let le : length d ≤ 0 + length xs = omega arith in
+    let none-left : drop (0 + length xs) d ≡ [] = drop-of-length-le d le in
+    ap (λ (l : List ℕ). xs ++ l) none-left ∙ append-nil xs
+
+pub puts-all : {d xs after : List ℕ} {e : ℕ} → Puts d 0 xs after e → length d ≤ length xs → after ≡ xs
+puts-all {d} {xs} p h = p .text ∙ over-all d xs h

@@ -1,59 +1,50 @@
 -- What `put_subgraph` writes: the text of the chosen edges, and zeros after its end.
-use mathlib.Core.Path.{_≡_, refl, sym, ap, _∙_}
-use mathlib.Core.List.{List, [], _∷_, _++_}
-use Prim.Native.Nat.{ℕ, _+_, _*_, _-_, _≤_, _<_}
+use mathlib.Core.Path.{_≡_, sym, ap, _∙_, subst}
+use mathlib.Core.List.{List, [], _++_}
+use Prim.Native.Nat.{ℕ, _+_, _-_, _≤_, _<_}
 use native.Mathlib.Numerals.{add-one}
 use native.Mathlib.Omega.{arith}
 use lib.IntN.{ℤ}
 use lib.ListN.{length, getD, replicate, length-append, length-replicate}
 use Rattle.integers.specs.Sum.{sum}
 use Rattle.graph.specs.declared.Shape.{Shape}
+use Rattle.graph.specs.Limits.{subgraphBytes}
 use Rattle.graph.specs.Graph.{Graph, graphOf}
 use Rattle.graph.specs.Subgraph.{markAt}
 use Rattle.graph.specs.Passed.{Sound, MarksHold}
-use Rattle.layout.specs.Text.{decimal, spaced, unlines}
-use Rattle.layout.specs.SubgraphText.{chosenLines, headerText, subgraphText}
+use Rattle.layout.specs.Text.{unlines}
+use Rattle.layout.specs.declared.Field.the-variants as Field
+use Rattle.layout.specs.SubgraphText.{chosenLines, subgraphText}
 use Rattle.readback.proofs.Accepted.{small}
 use Rattle.readback.proofs.Pieces.{unlines-append}
-use Rattle.readback.proofs.Fits.{count-le, header-le, size-line-le, length-line, length-no-line, linesAt, chosen-none, chosen-more, line-le, text-le}
-use Rattle.writer.specs.Written.{Puts, Written, edgeLines}
-use Rattle.writer.proofs.Over.{puts-none, puts-then, puts-same, over-zeros}
+use Rattle.readback.proofs.Growing.{growing-text}
+use Rattle.readback.proofs.Fits.{count-le, linesAt, chosen-growing, line-le, text-le}
+use Rattle.writer.specs.Written.{Puts, Written, headLines, edgeLines}
+use Rattle.writer.proofs.Over.{puts-then, puts-same, zeros-written}
+use Rattle.writer.proofs.Lines.{head-le}
+use Rattle.writer.proofs.Writing.{Writing, writing-starts, writing-room, writing-more, writing-ends}
 
 -- ---- the loop over the edges
 
--- The text of the first n edges, and the two lines before it.
+-- The text of the first n edges.
 abbrev pub edgeText : Graph → List ℕ → ℕ → List ℕ
 edgeText g x n = unlines (chosenLines g x n)
 
-abbrev pub headLines : Shape → ℕ → List (List ℕ)
-headLines s count = headerText (s .kind) ∷ spaced (decimal (s .rows) ∷ decimal (s .columns) ∷ decimal count ∷ []) ∷ []
+-- They do not depend on the shape and the weights.
+abbrev pub textFor : List ℕ → List ℕ → List ℕ → Shape × List ℤ → ℕ → List ℕ
+textFor row column x i n = edgeText (graphOf (i .0) row column (i .1)) x n
 
--- The lines of the first n edges have been written from start on. They do not depend on the shape and the weights.
-pub record Writing (row column x d : List ℕ) (start : ℕ) (l : List ℕ) (at n : ℕ) : Type 0 where
-  pub within : n ≤ length row
-  pub long : length l ≡ length d
-  pub begun : start + 8224 ≤ length d
-  pub room : at ≤ start + n * 8
-  pub puts : (s : Shape) (w : List ℤ) → Puts d start (edgeText (graphOf s row column w) x n) l at
+-- The lines of the first n edges have been written from start on.
+abbrev pub EdgesWriting : List ℕ → List ℕ → List ℕ → List ℕ → ℕ → List ℕ → ℕ → ℕ → Type 0
+EdgesWriting row column x = Writing (textFor row column x) (length row) 8 32
 
 no-lines : (g : Graph) (x : List ℕ) → [] ≡ edgeText g x 0
 unfolding unlines
-no-lines g x = ap unlines (sym (chosen-none g x))
+no-lines g x = ap unlines (sym (chosen-growing g x .start))
 
 more-lines : (g : Graph) (x : List ℕ) (n : ℕ) → edgeText g x n ++ unlines (linesAt g x n) ≡ edgeText g x (n + 1)
 more-lines g x n =
-    sym (unlines-append (chosenLines g x n) (linesAt g x n))
-    ∙ ap unlines (sym (chosen-more g x n))
-    ∙ ap (edgeText g x) (sym (add-one n))
-
-pub writing-starts : (row column x d : List ℕ) (start : ℕ) → start + 8224 ≤ length d → Writing row column x d start d start 0
-writing-starts row column x d start h = record {
-  within = omega arith;
-  long = refl;
-  begun = h;
-  room = omega arith;
-  puts = λ s w. puts-same (puts-none d start) (no-lines (graphOf s row column w) x);
-}
+    sym (growing-text (chosen-growing g x) n) ∙ ap (edgeText g x) (sym (add-one n))
 
 module _ {s : Shape} {row column x : List ℕ} (S : Sound s row column) (M : MarksHold (s .edges) x) where
   pub few : length row ≤ 1024
@@ -62,59 +53,45 @@ module _ {s : Shape} {row column x : List ℕ} (S : Sound s row column) (M : Mar
   pub marks-few : length x ≤ 1024
   marks-few = omega (arith, M .long, S .sizes .few)
 
-  module _ {d : List ℕ} {start : ℕ} {l : List ℕ} {at n : ℕ} (W : Writing row column x d start l at n) where
-    module _ (lt : n < length row) where
-      pub line-room : at + 32 ≤ length l
-      line-room = omega (arith, few, W .room, W .begun, W .long)
+  pub edges-start : (d : List ℕ) (start : ℕ) → start + 8224 ≤ length d → EdgesWriting row column x d start d start 0
+  edges-start d start h =
+      writing-starts (textFor row column x) (length row) 8 32 d start (λ i. no-lines (graphOf (i .0) row column (i .1)) x) (omega (arith, few))
 
-      pub writing-more : {l′ : List ℕ} {at′ : ℕ} → length l′ ≡ length l
-          → Puts l at (unlines (edgeLines (getD row n 0) (getD column n 0) (getD x n 0))) l′ at′ → Writing row column x d start l′ at′ (n + 1)
-      writing-more {l′} {at′} long p =
-          let e = line-le x (small (graphOf s row column []) S) n (omega (arith, S .rowLong)) in
-          record {
-            within = omega arith;
-            long = long ∙ W .long;
-            begun = W .begun;
-            room = omega (arith, p .place, W .room);
-            puts = λ t w. puts-same (puts-then (W .puts t w) p (omega (arith, W .puts t w .place, W .room, W .begun, few)))
-                (more-lines (graphOf t row column w) x n);
-          }
+  module _ {d : List ℕ} {start : ℕ} {l : List ℕ} {at n : ℕ} (W : EdgesWriting row column x d start l at n) where
+    pub line-room : n < length row → at + 32 ≤ length l
+    line-room lt = omega (arith, writing-room (textFor row column x) (length row) 8 32 W lt)
 
-    pub writing-ends : length row ≤ n → (w : List ℤ) → Puts d start (edgeText (graphOf s row column w) x (s .edges)) l at
-    writing-ends le w =
-        let e : n ≡ s .edges = omega (arith, W .within, S .rowLong) in
-        puts-same (W .puts s w) (ap (edgeText (graphOf s row column w) x) e)
+    pub edges-more : n < length row → {l′ : List ℕ} {at′ : ℕ} → length l′ ≡ length l
+        → Puts l at (unlines (edgeLines (getD row n 0) (getD column n 0) (getD x n 0))) l′ at′ → EdgesWriting row column x d start l′ at′ (n + 1)
+    edges-more lt =
+        writing-more (textFor row column x) (length row) 8 32 W lt (line-le x (small (graphOf s row column []) S) n (omega (arith, S .rowLong)))
+        (λ i. more-lines (graphOf (i .0) row column (i .1)) x n)
+
+    pub edges-end : length row ≤ n → (w : List ℤ) → Puts d start (edgeText (graphOf s row column w) x (s .edges)) l at
+    edges-end le w =
+        puts-same (writing-ends (textFor row column x) (length row) 8 32 W le (s, w)) (ap (edgeText (graphOf s row column w) x) (S .rowLong))
 
   -- ---- the whole text
 
   module _ (z : List ℕ) {d : List ℕ} {count start : ℕ} (long : length z ≡ 16384) (counted : count ≡ sum (length x) (markAt x))
-      (p : Puts (replicate (length z) 0) 0 (unlines (headLines s count)) d start) where
+      (p : Puts (replicate (length z) 0) 0 (unlines (headLines Field.Pattern s count)) d start) where
     count-is : count ≡ sum (s .edges) (markAt x)
     count-is = counted ∙ ap (λ (k : ℕ). sum k (markAt x)) (M .long)
 
     pub head-room : length d ≡ length z → start + 8224 ≤ length d
     head-room same =
-        let sizes = spaced (decimal (s .rows) ∷ decimal (s .columns) ∷ decimal count ∷ []) in
         let k : count ≤ 1024 = omega (arith, count-is, S .sizes .few, count-le M) in
-        omega (
-          arith,
-          p .place,
-          length-line (headerText (s .kind)) (sizes ∷ []),
-          length-line sizes [],
-          length-no-line,
-          header-le (s .kind),
-          size-line-le (s .rows) (s .columns) count (S .sizes .rows .greatest) (S .sizes .columns .greatest) k,
-        )
+        omega (arith, p .place, head-le Field.Pattern s count (S .sizes) k)
 
     module _ (w : List ℤ) {l : List ℕ} {at : ℕ} (q : Puts d start (edgeText (graphOf s row column w) x (s .edges)) l at) where
       abbrev G : Graph
       G = graphOf s row column w
 
-      text-is : unlines (headLines s count) ++ edgeText G x (s .edges) ≡ subgraphText G x
+      text-is : unlines (headLines Field.Pattern s count) ++ edgeText G x (s .edges) ≡ subgraphText G x
       unfolding subgraphText
       text-is =
-          sym (unlines-append (headLines s count) (chosenLines G x (s .edges)))
-          ∙ ap (λ (n : ℕ). unlines (headLines s n ++ chosenLines G x (s .edges))) count-is
+          sym (unlines-append (headLines Field.Pattern s count) (chosenLines G x (s .edges)))
+          ∙ ap (λ (n : ℕ). unlines (headLines Field.Pattern s n ++ chosenLines G x (s .edges))) count-is
 
       whole : Puts (replicate (length z) 0) 0 (subgraphText G x) l at
       whole =
@@ -125,14 +102,9 @@ module _ {s : Shape} {row column x : List ℕ} (S : Sound s row column) (M : Mar
             length-replicate {A = ℕ} (length z) 0,
             text-le G x S M,
             ap length text-is,
-            length-append (unlines (headLines s count)) (edgeText G x (s .edges)),
+            length-append (unlines (headLines Field.Pattern s count)) (edgeText G x (s .edges)),
           )))
           text-is
 
-      pub subgraph-written : Written G x l at
-      subgraph-written = record {
-        text =
-            whole .text ∙ over-zeros (length z) (subgraphText G x)
-            ∙ ap (λ (n : ℕ). subgraphText G x ++ replicate (n - length (subgraphText G x)) 0) long;
-        size = omega (arith, whole .place);
-      }
+      pub subgraph-written : Written subgraphBytes (subgraphText G x) l at
+      subgraph-written = subst (λ (n : ℕ). Written n (subgraphText G x) l at) long (zeros-written whole)

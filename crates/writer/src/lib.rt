@@ -1,19 +1,22 @@
-// Writes a subgraph (plan) as a Matrix Market text.
+// Writes numbers, and a subgraph (plan) as a Matrix Market text.
 use graph::Kind;
 use graph::Shape;
+use layout::Field;
 ghost use mathlib.Core.Path.{_≡_};
 ghost use mathlib.Core.List.{List, [], _∷_};
 ghost use Prim.Native.Nat.{_+_, _≤_};
 ghost use lib.IntN.{ℤ};
 ghost use lib.ListN.{length, replicate};
+ghost use Rattle.integers.specs.Integer.{up, dn};
 ghost use Rattle.integers.specs.Sum.{sum};
 ghost use Rattle.graph.specs.Limits.{mostEdges, subgraphBytes};
 ghost use Rattle.graph.specs.Graph.{graphOf};
 ghost use Rattle.graph.specs.Subgraph.{markAt};
 ghost use Rattle.graph.specs.Passed.{Sound, MarksHold};
-ghost use Rattle.layout.specs.Text.{decimal, spaced, unlines};
-ghost use Rattle.layout.specs.SubgraphText.{headerText};
-ghost use Rattle.writer.specs.Written.{Puts, Written, edgeLines};
+ghost use Rattle.layout.specs.Text.{decimal, signed, spaced, unlines};
+ghost use Rattle.layout.specs.GraphText.{headerText};
+ghost use Rattle.layout.specs.SubgraphText.{subgraphText};
+ghost use Rattle.writer.specs.Written.{Puts, Written, headLines, edgeLines};
 
 // Writes the digits of n at the start of `out`, with no leading zero. The result is their number.
 pub fn put_number(out: &mut [u8], n: u64) -> usize
@@ -27,6 +30,39 @@ pub fn put_number(out: &mut [u8], n: u64) -> usize
     let k = put_number(out, n / 10);
     out[k] = 48 + ((n % 10) as u8);
     k + 1
+}
+
+// A number without its sign. Before it is negated, z below 0 is raised by 1, so that the least number has a magnitude too.
+fn magnitude(z: i64) -> u64
+    ensures { λ r. ⌜ r ≡ up z + dn z ⌝ }
+{
+    if z < 0 {
+        (-(z + 1)) as u64 + 1
+    } else {
+        z as u64
+    }
+}
+
+// Writes the digits of n from `at` on. The result is the place after them.
+pub fn put_natural(out: &mut [u8], at: usize, n: u64) -> usize
+    requires { ⌜ at + 20 ≤ length (now out) ⌝ }
+    ensures { λ r. ⌜ Puts (now (out .entry)) at (decimal n) (now (out .exit)) r × (r ≤ at + 20) ⌝ }
+{
+    at + put_number(&mut out[at..], n)
+}
+
+// Writes z from `at` on, with - before a number below 0. The result is the place after it.
+pub fn put_signed(out: &mut [u8], at: usize, z: i64) -> usize
+    requires { ⌜ at + 21 ≤ length (now out) ⌝ }
+    ensures { λ r. ⌜ Puts (now (out .entry)) at (signed z) (now (out .exit)) r × (r ≤ at + 21) ⌝ }
+{
+    let n = magnitude(z);
+    if z < 0 {
+        out[at] = 45;
+        put_natural(out, at + 1, n)
+    } else {
+        put_natural(out, at, n)
+    }
 }
 
 // Writes the bytes b from `at` on. The result is the place after them.
@@ -65,33 +101,47 @@ fn put_sizes(out: &mut [u8], at: usize, rows: u32, columns: u32, count: u32) -> 
     put_pair(out, a + 1, columns, count)
 }
 
-// Writes the header line at the start. The result is the place after it.
-fn put_header(out: &mut [u8], kind: Kind) -> usize
+// Writes the header line of a field at the start. The result is the place after it.
+fn put_header(out: &mut [u8], field: Field, kind: Kind) -> usize
     requires { ⌜ 64 ≤ length (now out) ⌝ }
-    ensures { λ r. ⌜ Puts (now (out .entry)) 0 (unlines (headerText kind ∷ [])) (now (out .exit)) r ⌝ }
+    ensures { λ r. ⌜ Puts (now (out .entry)) 0 (unlines (headerText field kind ∷ [])) (now (out .exit)) r ⌝ }
 {
-    match kind {
-        Kind::Bipartite => put_bytes(
-            out,
-            0,
-            b"%%MatrixMarket matrix coordinate pattern general\n",
-        ),
-        Kind::General => put_bytes(
-            out,
-            0,
-            b"%%MatrixMarket matrix coordinate pattern symmetric\n",
-        ),
+    match field {
+        Field::Integer => match kind {
+            Kind::Bipartite => put_bytes(
+                out,
+                0,
+                b"%%MatrixMarket matrix coordinate integer general\n",
+            ),
+            Kind::General => put_bytes(
+                out,
+                0,
+                b"%%MatrixMarket matrix coordinate integer symmetric\n",
+            ),
+        },
+        Field::Pattern => match kind {
+            Kind::Bipartite => put_bytes(
+                out,
+                0,
+                b"%%MatrixMarket matrix coordinate pattern general\n",
+            ),
+            Kind::General => put_bytes(
+                out,
+                0,
+                b"%%MatrixMarket matrix coordinate pattern symmetric\n",
+            ),
+        },
     }
 }
 
-// Clears `out`, and writes the header line and the size line at its start. The result is the place after them.
-fn put_head(out: &mut [u8], s: Shape, count: u32) -> usize
+// Clears `out`, and writes the header line of a field and the size line at its start. The result is the place after them.
+pub fn put_head(out: &mut [u8], field: Field, s: Shape, count: u32) -> usize
     requires { ⌜ 128 ≤ length (now out) ⌝ }
-    ensures { λ r. ⌜ Puts (replicate (length (now (out .entry))) 0) 0 (unlines (headerText (s .kind) ∷ spaced (decimal (s .rows) ∷ decimal (s .columns) ∷ decimal count ∷ []) ∷ [])) (now (out .exit)) r ⌝ }
+    ensures { λ r. ⌜ Puts (replicate (length (now (out .entry))) 0) 0 (unlines (headLines field s count)) (now (out .exit)) r ⌝ }
 {
     lent::clear_bytes(out);
     let kind = s.kind;
-    let at = put_header(out, kind);
+    let at = put_header(out, field, kind);
     put_sizes(out, at, s.rows, s.columns, count)
 }
 
@@ -126,9 +176,9 @@ fn count_chosen(chosen: &[u8]) -> u32
 pub fn put_subgraph(out: &mut [u8], s: Shape, row: &[u32], column: &[u32], chosen: &[u8]) -> usize
     requires { ⌜ length (now out) ≡ subgraphBytes ⌝ }
     requires { ⌜ Sound s (now row) (now column) × MarksHold (s .edges) (now chosen) ⌝ }
-    ensures { λ r. ⌜ ((w : List ℤ) → Written (graphOf s (now (row .entry)) (now (column .entry)) w) (now (chosen .entry)) (now (out .exit)) r) ⌝ }
+    ensures { λ r. ⌜ ((w : List ℤ) → Written subgraphBytes (subgraphText (graphOf s (now (row .entry)) (now (column .entry)) w) (now (chosen .entry))) (now (out .exit)) r) ⌝ }
 {
-    let mut at = put_head(out, s, count_chosen(chosen));
+    let mut at = put_head(out, Field::Pattern, s, count_chosen(chosen));
     let mut e = 0;
     while e < row.len() {
         at = put_edge(out, at, row[e], column[e], chosen[e]);

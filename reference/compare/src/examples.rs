@@ -7,6 +7,9 @@ use std::path::{Path, PathBuf};
 /// The folder of the examples, in the repository.
 const EXAMPLES: &str = "examples";
 
+/// The name under which an example has the tidy form of its sheet.
+pub const TIDIED: &str = "tidy.mtx";
+
 fn path(name: &str) -> PathBuf {
     let root = Path::new(env!("CARGO_MANIFEST_DIR")).join("../..");
     root.join(name)
@@ -22,9 +25,14 @@ pub fn example(name: &str) -> Folder {
     Folder::read(name.into(), &path(name))
 }
 
-/// Whether a folder is an example.
-pub fn is_example(folder: &Folder) -> bool {
-    folder.name.split('/').next() == Some(EXAMPLES)
+/// Whether something of this name is an example.
+pub fn is_example(name: &str) -> bool {
+    name.split('/').next() == Some(EXAMPLES)
+}
+
+/// The last part of a path.
+pub fn file_name(path: &str) -> &str {
+    path.rsplit('/').next().unwrap_or(path)
 }
 
 /// The names of the folders in a folder of the repository, in order.
@@ -54,9 +62,9 @@ pub fn names() -> Vec<String> {
     names_from(EXAMPLES, NAMES[0])
 }
 
-/// The texts of all examples, by their paths: those of `rewrite`, and those of `solve` and `mark`.
+/// The texts of all examples, by their paths: those that the programs read, and tidy sheets.
 pub fn texts() -> Vec<(String, Entry)> {
-    let files = [OLD].into_iter().chain(NAMES);
+    let files = [OLD, TIDIED].into_iter().chain(NAMES);
     let paths = files.flat_map(|file| {
         let names = names_from(EXAMPLES, file).into_iter();
         names.map(move |name| format!("{name}/{file}"))

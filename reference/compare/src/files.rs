@@ -5,7 +5,7 @@ use std::fs;
 use std::io;
 use std::path::Path;
 
-/// The names of the files of `solve` and `mark`, in the order in which they are read.
+/// The names of the files of `solve` and `mark`, in the order in which they are read; `tidy` reads the first.
 pub const NAMES: [&str; 4] = ["sheet.mtx", "limits.mtx", "plan.mtx", "prices.mtx"];
 
 /// The name of the file of `rewrite`.

@@ -1,4 +1,4 @@
-//! Many folders for the two programs: right ones, ones with a damaged or an unusual file, and the examples.
+//! Many folders for `solve`, `mark` and `tidy`: right ones, ones with a damaged or an unusual file, and the examples.
 
 use crate::examples::{self, example};
 use crate::files::{Entry, Folder, NAMES};
@@ -212,11 +212,17 @@ fn unusual(random: &mut Random) -> Vec<Folder> {
     folders
 }
 
+/// The folders with an unusual file, and `count` others.
+pub fn drawn(seed: u64, count: usize) -> Vec<Folder> {
+    let mut random = Random::new(seed);
+    let mut folders = unusual(&mut random);
+    folders.extend((0..count).map(|at| any(&mut random, format!("{at} of seed {seed}"))));
+    folders
+}
+
 /// The examples, the folders with an unusual file, and `count` others.
 pub fn all(seed: u64, count: usize) -> Vec<Folder> {
-    let mut random = Random::new(seed);
     let mut folders: Vec<_> = examples::names().iter().map(|name| example(name)).collect();
-    folders.extend(unusual(&mut random));
-    folders.extend((0..count).map(|at| any(&mut random, format!("{at} of seed {seed}"))));
+    folders.extend(drawn(seed, count));
     folders
 }

@@ -23,6 +23,22 @@ pub fn weight(random: &mut Random) -> i32 {
     }
 }
 
+/// Two different places of so many, the earlier first. There are at least two.
+fn two_places(random: &mut Random, count: usize) -> (usize, usize) {
+    let one = random.below(count as u64 - 1) as usize;
+    (
+        one,
+        one + 1 + random.below((count - 1 - one) as u64) as usize,
+    )
+}
+
+/// Puts items into a drawn order.
+fn shuffle<T>(random: &mut Random, items: &mut [T]) {
+    for at in (1..items.len()).rev() {
+        items.swap(at, random.below(at as u64 + 1) as usize);
+    }
+}
+
 impl Lent {
     /// A right graph of a kind with these sizes and at most this many edges, in any order.
     pub fn right(random: &mut Random, kind: Kind, rows: u32, columns: u32, most: usize) -> Lent {
@@ -34,9 +50,7 @@ impl Lent {
                 }
             }
         }
-        for at in (1..pairs.len()).rev() {
-            pairs.swap(at, random.below(at as u64 + 1) as usize);
-        }
+        shuffle(random, &mut pairs);
         pairs.truncate(most);
         Lent {
             kind,
@@ -47,6 +61,15 @@ impl Lent {
             column: pairs.iter().map(|p| p.1).collect(),
             weight: pairs.iter().map(|_| weight(random)).collect(),
         }
+    }
+
+    /// A graph of a kind with as many vertices as it may have and this many edges: right, unless these are too many.
+    pub fn largest(random: &mut Random, kind: Kind, edges: usize) -> Lent {
+        let side = match kind {
+            Kind::Bipartite => 64,
+            Kind::General => 128,
+        };
+        Lent::right(random, kind, side, side, edges)
     }
 
     /// A right graph of either kind: small, or now and then full.
@@ -80,10 +103,11 @@ impl Lent {
         }
     }
 
-    /// One number is made wrong.
+    /// One number or length is made wrong, of which another may be wrong already.
     pub fn spoil(&mut self, random: &mut Random) {
         let far = random.pick(&[0, 65, 129, 1025, u32::MAX, u32::MAX - 3, 1 << 31]);
-        let count = self.row.len();
+        let lengths = [self.row.len(), self.column.len(), self.weight.len()];
+        let count = lengths.into_iter().min().unwrap_or(0);
         let at = random.below(count.max(1) as u64) as usize;
         match random.below(9) {
             0 => self.rows = far,
@@ -97,11 +121,63 @@ impl Lent {
                 self.weight[at] = random.pick(&[1_000_001, -1_000_001, i32::MIN, i32::MAX])
             }
             8 if count > 1 => {
-                self.row[count - 1] = self.row[0];
-                self.column[count - 1] = self.column[0];
+                let (one, other) = two_places(random, count);
+                self.row[other] = self.row[one];
+                self.column[other] = self.column[one];
             }
             _ => self.kind = random.pick(&[Kind::Bipartite, Kind::General]),
         }
+    }
+
+    /// The edges that stand at these places, in this order.
+    pub fn in_order(&self, places: &[usize]) -> Lent {
+        Lent {
+            edges: places.len() as u32,
+            row: places.iter().map(|&at| self.row[at]).collect(),
+            column: places.iter().map(|&at| self.column[at]).collect(),
+            weight: places.iter().map(|&at| self.weight[at]).collect(),
+            ..*self
+        }
+    }
+
+    /// The same edges in a drawn order.
+    pub fn shuffled(&self, random: &mut Random) -> Lent {
+        let mut places: Vec<_> = (0..self.row.len()).collect();
+        shuffle(random, &mut places);
+        self.in_order(&places)
+    }
+
+    /// The graph with the ends of two of its edges exchanged, if it has two.
+    pub fn exchanged(&self, random: &mut Random) -> Option<Lent> {
+        if self.row.len() < 2 {
+            return None;
+        }
+        let (one, other) = two_places(random, self.row.len());
+        let mut made = self.clone();
+        made.row.swap(one, other);
+        made.column.swap(one, other);
+        Some(made)
+    }
+
+    /// The graph with one edge between other ends, if such are found.
+    pub fn moved(&self, random: &mut Random) -> Option<Lent> {
+        let count = self.row.len() as u64;
+        if count == 0 {
+            return None;
+        }
+        let at = random.below(count) as usize;
+        let mut made = self.clone();
+        for _ in 0..20 {
+            made.row[at] = 1 + random.below(self.rows.into()) as u32;
+            made.column[at] = 1 + random.below(self.columns.into()) as u32;
+            let on_side = self.kind == Kind::Bipartite || made.row[at] > made.column[at];
+            let ends = (made.row[at], made.column[at]);
+            let mut pairs = self.row.iter().zip(&self.column);
+            if on_side && pairs.all(|(&row, &column)| (row, column) != ends) {
+                return Some(made);
+            }
+        }
+        None
     }
 
     /// The last edge, if there is one, is taken out.
@@ -133,10 +209,51 @@ impl Lent {
         index
     }
 
+    /// Whether a right graph has as many vertices and edges as it may have.
+    pub fn is_largest(&self) -> bool {
+        self.edges == 1024 && self.vertices() == 128
+    }
+
     /// The number of vertices, where the graph is right.
     pub fn vertices(&self) -> usize {
         self.lend().vertices() as usize
     }
+}
+
+/// Graphs with sizes at the ends of their ranges and beyond them, and with ends beyond their sizes, on the wrong side, or twice.
+pub fn extreme_graphs(random: &mut Random) -> Vec<Lent> {
+    let sizes = [(64, 64), (65, 1), (1, 65), (0, 2), (2, 0)];
+    let two_sided = sizes.map(|(rows, columns)| (Kind::Bipartite, rows, columns));
+    let sizes = [(128, 128), (129, 129), (0, 0), (3, 2), (2, 3)];
+    let one_sided = sizes.map(|(rows, columns)| (Kind::General, rows, columns));
+    let sizes = two_sided.into_iter().chain(one_sided);
+    let graphs = sizes.map(|(kind, rows, columns)| Lent::right(random, kind, rows, columns, 6));
+    let mut graphs: Vec<_> = graphs.collect();
+    let square = Lent::right(random, Kind::Bipartite, 3, 3, 9);
+    let triangle = Lent::right(random, Kind::General, 3, 3, 3);
+    let mut twice = square.clone();
+    (twice.row[8], twice.column[8]) = (twice.row[0], twice.column[0]);
+    graphs.extend([
+        Lent {
+            rows: 2,
+            ..square.clone()
+        },
+        Lent {
+            columns: 2,
+            ..square.clone()
+        },
+        Lent {
+            kind: Kind::General,
+            ..square
+        },
+        Lent {
+            rows: 2,
+            columns: 2,
+            ..triangle
+        },
+        twice,
+    ]);
+    graphs
 }
 
 /// A lent length: mostly the right one.

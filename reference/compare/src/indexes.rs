@@ -32,20 +32,11 @@ pub fn change(random: &mut Random, index: &mut [u32]) -> bool {
     true
 }
 
-/// The graph with the longest index, of a kind.
-fn full(random: &mut Random, kind: Kind) -> Lent {
-    let side = match kind {
-        Kind::Bipartite => 64,
-        Kind::General => 128,
-    };
-    Lent::right(random, kind, side, side, 1024)
-}
-
-/// A right graph of either kind: small, or now and then full.
+/// A right graph of either kind: small, or now and then one with the longest index.
 fn any(random: &mut Random) -> Lent {
     match random.below(200) {
-        0 => full(random, Kind::Bipartite),
-        1 => full(random, Kind::General),
+        0 => Lent::largest(random, Kind::Bipartite, 1024),
+        1 => Lent::largest(random, Kind::General, 1024),
         _ => Lent::any(random),
     }
 }
@@ -129,41 +120,6 @@ impl Sort {
     }
 }
 
-/// The graph with two of its edges exchanged, if it has two.
-fn exchanged(random: &mut Random, lent: &Lent) -> Option<Lent> {
-    let count = lent.row.len() as u64;
-    if count < 2 {
-        return None;
-    }
-    let one = random.below(count - 1) as usize;
-    let other = one + 1 + random.below(count - 1 - one as u64) as usize;
-    let mut made = lent.clone();
-    made.row.swap(one, other);
-    made.column.swap(one, other);
-    Some(made)
-}
-
-/// The graph with one edge between other ends, if such are found.
-fn moved(random: &mut Random, lent: &Lent) -> Option<Lent> {
-    let count = lent.row.len() as u64;
-    if count == 0 {
-        return None;
-    }
-    let at = random.below(count) as usize;
-    let mut made = lent.clone();
-    for _ in 0..20 {
-        made.row[at] = 1 + random.below(lent.rows.into()) as u32;
-        made.column[at] = 1 + random.below(lent.columns.into()) as u32;
-        let on_side = lent.kind == Kind::Bipartite || made.row[at] > made.column[at];
-        let ends = (made.row[at], made.column[at]);
-        let mut pairs = lent.row.iter().zip(&lent.column);
-        if on_side && pairs.all(|(&row, &column)| (row, column) != ends) {
-            return Some(made);
-        }
-    }
-    None
-}
-
 /// An index with right offsets and the edges of one vertex in falling order, if a vertex has two.
 fn falling(random: &mut Random, lent: &Lent) -> Option<Vec<u32>> {
     let mut index = lent.index();
@@ -194,8 +150,8 @@ fn lent_index(random: &mut Random, sort: Sort, lent: &mut Lent) -> Option<Vec<u3
             let long = random.pick(&[0, 1, right - 1, right + 1, lent.vertices(), 2 * right, 2177]);
             index.resize(long, 0);
         }
-        Sort::Exchanged => index = exchanged(random, lent)?.index(),
-        Sort::Moved => index = moved(random, lent)?.index(),
+        Sort::Exchanged => index = lent.exchanged(random)?.index(),
+        Sort::Moved => index = lent.moved(random)?.index(),
         Sort::Falling => index = falling(random, lent)?,
         Sort::Spoilt => {
             lent.spoil(random);
@@ -282,7 +238,7 @@ pub fn compare(seed: u64, count: u64) -> Vec<bool> {
     }
     for _ in 0..4 {
         for kind in [Kind::Bipartite, Kind::General] {
-            let lent = full(&mut random, kind);
+            let lent = Lent::largest(&mut random, kind, 1024);
             compare_positions(&mut random, &lent, 2, &mut positions);
         }
     }

@@ -1,7 +1,8 @@
 //! The situations in which `rewrite` is compared, and those that must be seen.
 
-use crate::examples;
+use crate::examples::{self, file_name};
 use crate::forms::Form;
+use crate::noise::{besides_numbers, words, BESIDES};
 use crate::old_texts::OldText;
 use crate::readings::Readings;
 use crate::situations::{other, sort_of_graph, unusual, UNUSUAL};
@@ -21,16 +22,6 @@ const MINUS_ZERO: &str = "-0";
 const MINUS_ZEROS: &str = "- and leading zeros";
 
 const COPIED: &str = "rewrite, bytes that are copied";
-const COMMENT: &str = "numbers in comments";
-const CAPITALS: &str = "capitals in headers";
-const HEADER_END: &str = "blanks at a header's end";
-const TABS: &str = "tabs";
-const LINE_START: &str = "blanks at a line's start";
-const LINE_END: &str = "blanks at a line's end";
-const EMPTY_LINE: &str = "empty lines";
-const BLANK_LINE: &str = "lines of blanks";
-const LONGEST_LINE: &str = "lines of 1,024 bytes";
-const NO_LAST: &str = "no byte 10 at the end";
 
 const FILES: &str = "rewrite, unusual files";
 const TOO_LONG_LINE: &str = "lines of 1,025 bytes, refused";
@@ -46,8 +37,8 @@ fn of_sort(content: &Content, old: &Readings, taken: bool, unchanged: bool) -> N
     let drawn = old.seen(content.sort);
     let mut seen = Vec::new();
     if taken && drawn == Seen::Result {
-        let full = content.graph.edges == 1024 && content.graph.vertices() == 128;
-        seen.push(sort_of_graph(content.graph.kind, full));
+        let graph = &content.graph;
+        seen.push(sort_of_graph(graph.kind, graph.is_largest()));
         seen.push(drawn);
         if unchanged {
             seen.push(other(UNCHANGED));
@@ -75,16 +66,6 @@ fn taken_and_refused(form: Form) -> [bool; 2] {
         Form::TooManyZeros | Form::TenDigits | Form::SignAlone | Form::TwoSigns => [false, true],
         Form::SignAfter | Form::OtherByte | Form::LeftOut => [false, true],
     }
-}
-
-fn is_blank(byte: u8) -> bool {
-    byte == b' ' || byte == b'\t'
-}
-
-/// The words of a line, or of all lines.
-fn words(text: &[u8]) -> impl Iterator<Item = &[u8]> {
-    text.split(|&byte| is_blank(byte) || byte == b'\n')
-        .filter(|word| !word.is_empty())
 }
 
 /// The form of a number that is rewritten.
@@ -119,46 +100,6 @@ fn forms(text: &[u8], rewritten: &[u8]) -> Vec<Seen> {
     seen
 }
 
-/// What a text has besides its numbers.
-fn copied(text: &[u8]) -> Vec<Seen> {
-    let mut lines = text.split(|&byte| byte == b'\n');
-    let header = lines.next().unwrap_or_default();
-    let mut lines: Vec<_> = lines.collect();
-    let ends = |line: &[u8]| line.last().is_some_and(|&byte| is_blank(byte));
-    let lacks_last = lines.last().is_some_and(|line| !line.is_empty());
-    if !lacks_last {
-        lines.pop();
-    }
-    let any = |has: &dyn Fn(&[u8]) -> bool| lines.iter().any(|line| has(line));
-    let is_numeric = |line: &[u8]| !line.starts_with(b"%") && words(line).count() > 0;
-    let is_comment = |line: &[u8]| line.starts_with(b"%") && words(line).any(|word| word == b"+7");
-    let has = [
-        (COMMENT, any(&is_comment)),
-        (CAPITALS, header[14..].iter().any(u8::is_ascii_uppercase)),
-        (HEADER_END, ends(header)),
-        (TABS, any(&|line| is_numeric(line) && line.contains(&b'\t'))),
-        (
-            LINE_START,
-            any(&|line| is_numeric(line) && is_blank(line[0])),
-        ),
-        (LINE_END, any(&|line| is_numeric(line) && ends(line))),
-        (EMPTY_LINE, any(&|line| line.is_empty())),
-        (
-            BLANK_LINE,
-            any(&|line| !line.is_empty() && words(line).count() == 0),
-        ),
-        (LONGEST_LINE, any(&|line| line.len() == 1024)),
-        (NO_LAST, lacks_last),
-    ];
-    let has = has.into_iter().filter(|&(_, is_there)| is_there);
-    has.map(|(words, _)| other(words)).collect()
-}
-
-/// The last part of a path.
-fn file_name(path: &str) -> &str {
-    path.rsplit('/').next().unwrap_or(path)
-}
-
 /// What a text shows. `old` says how the old rules read it, `taken` that they take it.
 pub fn notes(one: &OldText, old: &Readings, taken: bool, rewritten: &[u8]) -> Vec<Note> {
     let text = one.text();
@@ -172,7 +113,7 @@ pub fn notes(one: &OldText, old: &Readings, taken: bool, rewritten: &[u8]) -> Ve
     }
     if taken && text != rewritten {
         notes.push((FORMS.into(), forms(text, rewritten)));
-        notes.push((COPIED.into(), copied(text)));
+        notes.push((COPIED.into(), besides_numbers(text)));
     }
     if let Some(thing) = unusual(&one.entry, taken) {
         notes.push((FILES.into(), vec![other(thing)]));
@@ -220,19 +161,7 @@ pub fn demanded() -> Vec<Note> {
     let mut forms = vec![on_line(ZEROS, true)];
     forms.extend([ZEROS, PLUS, MINUS_ZERO, MINUS_ZEROS].map(|form| on_line(form, false)));
     demanded.push((FORMS.into(), forms));
-    let copied = [
-        COMMENT,
-        CAPITALS,
-        HEADER_END,
-        TABS,
-        LINE_START,
-        LINE_END,
-        EMPTY_LINE,
-        BLANK_LINE,
-        LONGEST_LINE,
-        NO_LAST,
-    ];
-    demanded.push((COPIED.into(), copied.map(other).into()));
+    demanded.push((COPIED.into(), BESIDES.map(other).into()));
     let mut files: Vec<_> = UNUSUAL.map(other).into();
     files.push(other(TOO_LONG_LINE));
     demanded.push((FILES.into(), files));

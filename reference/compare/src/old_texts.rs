@@ -4,7 +4,7 @@ use crate::examples;
 use crate::files::Entry;
 use crate::folders::{small, UNUSUAL};
 use crate::forms::{Form, Role};
-use crate::graphs::Lent;
+use crate::graphs::{extreme_graphs, Lent};
 use crate::sorts::{Content, Sort};
 use crate::texts::{damaged, joined, Draft};
 use reference::{Kind, Random};
@@ -45,20 +45,11 @@ impl OldText {
     }
 }
 
-/// A graph of a kind with as many vertices as it may have, and this many edges.
-fn largest(random: &mut Random, kind: Kind, edges: usize) -> Lent {
-    let side = match kind {
-        Kind::Bipartite => 64,
-        Kind::General => 128,
-    };
-    Lent::right(random, kind, side, side, edges)
-}
-
 /// The right content of a text: mostly small.
 fn right(random: &mut Random) -> Content {
     let kind = random.pick(&[Kind::Bipartite, Kind::General]);
     let graph = match random.below(40) {
-        0 | 1 => largest(random, kind, 1024),
+        0 | 1 => Lent::largest(random, kind, 1024),
         2..=20 => small(random, kind),
         _ => Lent::any(random),
     };
@@ -163,7 +154,7 @@ fn longest(random: &mut Random) -> Vec<OldText> {
     for sort in Sort::ALL {
         for kind in [Kind::Bipartite, Kind::General] {
             for edges in [1024, 1025] {
-                let graph = largest(random, kind, edges);
+                let graph = Lent::largest(random, kind, edges);
                 let content = whole(random, sort, graph);
                 let name = format!("{kind:?} of {edges} edges, {}", sort.words());
                 texts.extend(in_both_forms(random, &name, &content));
@@ -171,42 +162,6 @@ fn longest(random: &mut Random) -> Vec<OldText> {
         }
     }
     texts
-}
-
-/// Graphs with sizes at the ends of their ranges and beyond them, and with ends beyond their sizes, on the wrong side, or twice.
-fn extreme_graphs(random: &mut Random) -> Vec<Lent> {
-    let sizes = [(64, 64), (65, 1), (1, 65), (0, 2), (2, 0)];
-    let two_sided = sizes.map(|(rows, columns)| (Kind::Bipartite, rows, columns));
-    let sizes = [(128, 128), (129, 129), (0, 0), (3, 2), (2, 3)];
-    let one_sided = sizes.map(|(rows, columns)| (Kind::General, rows, columns));
-    let sizes = two_sided.into_iter().chain(one_sided);
-    let graphs = sizes.map(|(kind, rows, columns)| Lent::right(random, kind, rows, columns, 6));
-    let mut graphs: Vec<_> = graphs.collect();
-    let square = Lent::right(random, Kind::Bipartite, 3, 3, 9);
-    let triangle = Lent::right(random, Kind::General, 3, 3, 3);
-    let mut twice = square.clone();
-    (twice.row[8], twice.column[8]) = (twice.row[0], twice.column[0]);
-    graphs.extend([
-        Lent {
-            rows: 2,
-            ..square.clone()
-        },
-        Lent {
-            columns: 2,
-            ..square.clone()
-        },
-        Lent {
-            kind: Kind::General,
-            ..square
-        },
-        Lent {
-            rows: 2,
-            columns: 2,
-            ..triangle
-        },
-        twice,
-    ]);
-    graphs
 }
 
 /// Signed numbers at the ends of their ranges and beyond them.

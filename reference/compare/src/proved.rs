@@ -58,6 +58,21 @@ extern "C" {
         out_len: usize,
         answer: *mut u64,
     ) -> u32;
+    fn jangoripu_tidy_graph(
+        general: bool,
+        rows: u32,
+        columns: u32,
+        edges: u32,
+        row: *const u32,
+        row_len: usize,
+        column: *const u32,
+        column_len: usize,
+        weight: *const i32,
+        weight_len: usize,
+        out: *mut u8,
+        out_len: usize,
+        answer: *mut u64,
+    ) -> u32;
     fn jangoripu_build_index(
         general: bool,
         rows: u32,
@@ -155,6 +170,14 @@ fn answered<T>(number: u32, place: u64, result: T) -> Result<T, Refusal> {
     } else {
         Err(Refusal::new(number, place))
     }
+}
+
+/// What a writer answers: a length, or a refusal and no length.
+fn written(number: u32, [place, length]: [u64; 2]) -> Result<usize, Refusal> {
+    if number != 0 {
+        assert_eq!(length, 0, "after a refusal no length is told");
+    }
+    answered(number, place, length as usize)
 }
 
 /// The graph reader.
@@ -259,10 +282,30 @@ pub fn write_subgraph(graph: &Graph, chosen: &[u8], out: &mut [u8]) -> Result<us
             answer.as_mut_ptr(),
         )
     };
-    if number != 0 {
-        assert_eq!(answer[1], 0, "after a refusal no length is told");
-    }
-    answered(number, answer[0], answer[1] as usize)
+    written(number, answer)
+}
+
+/// The tidy text of a graph.
+pub fn tidy_graph(graph: &Graph, out: &mut [u8]) -> Result<usize, Refusal> {
+    let mut answer = [7u64; 2];
+    let number = unsafe {
+        jangoripu_tidy_graph(
+            is_general(graph.kind),
+            graph.rows,
+            graph.columns,
+            graph.edges,
+            graph.row.as_ptr(),
+            graph.row.len(),
+            graph.column.as_ptr(),
+            graph.column.len(),
+            graph.weight.as_ptr(),
+            graph.weight.len(),
+            out.as_mut_ptr(),
+            out.len(),
+            answer.as_mut_ptr(),
+        )
+    };
+    written(number, answer)
 }
 
 /// Building an index.

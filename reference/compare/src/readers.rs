@@ -161,12 +161,9 @@ fn marks(random: &mut Random, count: usize) -> Vec<u8> {
         .collect()
 }
 
-fn compare_subgraphs(random: &mut Random, tally: &mut Tally) {
-    let lent = lent_graph(random);
-    let g = lent.lend();
-    let mut chosen: Vec<usize> = (0..lent.row.len())
-        .filter(|_| random.below(2) == 0)
-        .collect();
+/// The text of some edges of a graph, damaged now and then.
+pub fn subgraph_text(random: &mut Random, g: &Graph) -> Vec<u8> {
+    let mut chosen: Vec<usize> = (0..g.row.len()).filter(|_| random.below(2) == 0).collect();
     if random.below(3) == 0 {
         chosen.reverse();
     }
@@ -175,7 +172,13 @@ fn compare_subgraphs(random: &mut Random, tally: &mut Tally) {
     } else {
         g.kind
     };
-    let text = any_text(random, Draft::of_subgraph(kind, &g, &chosen));
+    any_text(random, Draft::of_subgraph(kind, g, &chosen))
+}
+
+fn compare_subgraphs(random: &mut Random, tally: &mut Tally) {
+    let lent = lent_graph(random);
+    let g = lent.lend();
+    let text = subgraph_text(random, &g);
     let long = length(random, (g.edges as usize).min(4096));
     let read = read_subgraphs(&text, &g, long);
     tally.count(&read.expected, read.agreed, || {

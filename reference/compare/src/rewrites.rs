@@ -5,14 +5,12 @@ use crate::old_situations::{demanded, notes};
 use crate::old_texts::{all, OldText};
 use crate::readings::{Readings, OLD_RULES, PROVED};
 use crate::runs::{Built, Printed, REWRITE};
-use crate::tally::{pick, Note, Tallies};
+use crate::tally::Note;
+use crate::twice::{self, Twice};
 use reference::read::MOST_NUMBERS;
 use reference::rewrite::{own_graph, CANNOT_READ};
 use reference::{read_numbers_by, rewrite, Graph, OwnedGraph, Rules, What};
 use std::io;
-
-/// The number of texts under valgrind.
-const UNDER_VALGRIND: usize = 80;
 
 /// The count with which the old rules take a text as prices, and so the only one with which they may take it as bounds.
 fn count_of(text: &[u8]) -> Option<u32> {
@@ -60,11 +58,25 @@ impl<'a> Rewriting<'a> {
     fn proved_readings(&self, text: &[u8]) -> Readings {
         Readings::of(&PROVED, text, &self.counts, &graphs(self.old, &self.own))
     }
+}
 
-    /// Whether a run on the text, and one on what it wrote, left behind what they must; if not, why.
-    pub fn judge(&self, left: &Printed, again: &Printed) -> Result<(), String> {
-        left.ended_well()?;
-        again.ended_well()?;
+impl Twice for Rewriting<'_> {
+    const PROGRAM: &'static str = REWRITE;
+    const FILE: &'static str = OLD;
+
+    fn name(&self) -> &str {
+        &self.old.name
+    }
+
+    fn entry(&self) -> &Entry {
+        &self.old.entry
+    }
+
+    fn notes(&self) -> &[Note] {
+        &self.notes
+    }
+
+    fn judge_output(&self, left: &Printed, again: &Printed) -> Result<(), String> {
         if left.out != self.expected {
             let expected = String::from_utf8_lossy(&self.expected);
             return Err(format!("expected {expected:?}"));
@@ -84,16 +96,6 @@ impl<'a> Rewriting<'a> {
         }
         Ok(())
     }
-
-    /// Counts a run in every comparison that it belongs to.
-    fn count(&self, left: &Printed, again: &Printed, tallies: &mut Tallies) {
-        let fault = self.judge(left, again).err();
-        tallies.note(&self.notes, fault.is_none(), || {
-            let fault = fault.clone().unwrap_or_default();
-            let (name, out, text) = (&self.old.name, left.shown(), self.old.entry.shown());
-            format!("{REWRITE}: {fault}, printed {out}, {name}: {text}")
-        });
-    }
 }
 
 /// The graphs with which a text is read as a subgraph.
@@ -102,28 +104,9 @@ fn graphs<'a>(old: &'a OldText, own: &'a Option<OwnedGraph>) -> Vec<Graph<'a>> {
     drawn.chain(own.iter().map(OwnedGraph::lend)).collect()
 }
 
-/// Runs `rewrite` on each of these.
-fn run_all<'a>(built: &Built, all: impl Iterator<Item = &'a Entry>) -> io::Result<Vec<Printed>> {
-    let starts: Vec<_> = all.map(|entry| (REWRITE, vec![(OLD, entry)])).collect();
-    built.run_all(&starts)
-}
-
-/// Compares `rewrite` on the texts of the examples and on many others, of which `count` are drawn; under valgrind, only on some of these, and what it wrote without it. True for each comparison that saw all it must see and in which nothing was wrong.
+/// Compares `rewrite` on the texts of the examples and on many others, of which `count` are drawn. True for each comparison that saw all it must see and in which nothing was wrong.
 pub fn compare(seed: u64, count: usize, built: &Built) -> io::Result<Vec<bool>> {
     let texts = all(seed, count);
-    let mut runs: Vec<_> = texts.iter().map(Rewriting::new).collect();
-    if built.valgrind {
-        let notes: Vec<_> = runs.iter().map(|run| run.notes.as_slice()).collect();
-        let mut picked = pick(&notes, UNDER_VALGRIND).into_iter();
-        runs.retain(|_| picked.next() == Some(true));
-    }
-    let left = run_all(built, runs.iter().map(|run| &run.old.entry))?;
-    let written = left.iter().map(|left| Entry::Text(left.out.clone()));
-    let written: Vec<_> = written.collect();
-    let again = run_all(&built.without_valgrind(), written.iter())?;
-    let mut tallies = Tallies::default();
-    for (run, (left, again)) in runs.iter().zip(left.iter().zip(&again)) {
-        run.count(left, again, &mut tallies);
-    }
-    Ok(tallies.report(&demanded()))
+    let runs = texts.iter().map(Rewriting::new).collect();
+    twice::compare(runs, &demanded(), built)
 }

@@ -17,6 +17,9 @@ const THREADS: usize = 2;
 /// The name of the program that writes the numbers of an old text in the one way.
 pub const REWRITE: &str = "rewrite";
 
+/// The name of the program that writes the tidy text of a sheet.
+pub const TIDY: &str = "tidy";
+
 /// One of the two programs on a graph and its bounds.
 #[derive(Clone, Copy, Debug, PartialEq, Eq)]
 pub enum Program {
@@ -116,7 +119,7 @@ pub struct Built {
 impl Built {
     /// The programs in a folder; an error if one is not there.
     pub fn new(folder: &Path, valgrind: bool) -> io::Result<Built> {
-        for program in [Program::Solve.name(), Program::Mark.name(), REWRITE] {
+        for program in [Program::Solve.name(), Program::Mark.name(), REWRITE, TIDY] {
             let path = folder.join(program);
             fs::metadata(&path).map_err(|error| about(path.display(), error))?;
         }

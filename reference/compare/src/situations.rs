@@ -1,4 +1,4 @@
-//! The situations in which the two programs are compared, and those that must be seen.
+//! The situations in which `solve` and `mark` are compared, and those that must be seen.
 
 use crate::examples::{self, is_example};
 use crate::files::{Entry, Folder};
@@ -123,7 +123,7 @@ pub fn notes(
             break;
         }
     }
-    if is_example(folder) {
+    if is_example(&folder.name) {
         notes.push((EXAMPLES.into(), vec![with(program, &folder.name)]));
     }
     notes

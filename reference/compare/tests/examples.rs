@@ -1,11 +1,12 @@
 //! The separately written program and the proved calls on the examples of the repository.
 
-use compare::examples::{example, file, texts};
+use compare::examples::{example, file, texts, TIDIED};
 use compare::files::OLD;
 use compare::proved;
+use compare::tidies::{read, tidy};
 use reference::programs::Input;
 use reference::rewrite::CANNOT_READ;
-use reference::{mark_output, rewrite, solve_output};
+use reference::{mark_output, rewrite, solve_output, tidy_output};
 
 fn solve(name: &str) -> String {
     String::from_utf8(solve_output(&example(name).lend())).unwrap()
@@ -121,4 +122,22 @@ fn the_other_examples_have_nothing_to_rewrite() {
             assert_eq!(rewrite(text), expected, "{name}");
         }
     }
+}
+
+#[test]
+fn the_untidy_example_is_the_season_and_is_tidied() {
+    let untidy = example("examples/untidy");
+    let season = example("examples/season");
+    let tidied = file(&format!("examples/untidy/{TIDIED}"));
+    let tidied = tidied.text().unwrap();
+    for folder in [&untidy, &season] {
+        assert_ne!(folder.lend().graph, Some(tidied));
+        assert_eq!(tidy_output(&folder.lend()), tidied);
+        let lent = read(folder.lend().graph.unwrap()).unwrap();
+        assert_eq!(tidy(&lent).unwrap(), tidied);
+    }
+    // With the untidy sheet the season's plan is read, but its prices are for another order of pairs.
+    let mut folder = season;
+    folder.entries[0] = untidy.entries[0].clone();
+    assert_eq!(mark_output(&folder.lend()), b"refused 15 at 1 in input\n");
 }

@@ -6,6 +6,8 @@ use compare::old_texts::OldText;
 use compare::programs::Run;
 use compare::rewrites::Rewriting;
 use compare::runs::{Printed, Program};
+use compare::tidy_runs::Tidying;
+use compare::twice::Twice;
 
 const PLAN: &str = "%%MatrixMarket matrix coordinate pattern general\n2 2 2\n1 2\n2 1\n";
 const LINE: &str = "merit 6 total 8 fish 0 groups 0 pairs 0 cover 2 gap 2\n";
@@ -170,4 +172,76 @@ fn what_the_old_rules_refuse_may_not_be_rewritten() {
     for wrong in [old, &old.replace('+', ""), "cannot read", ""] {
         assert!(!may_rewrite(old, wrong, wrong), "{wrong:?}");
     }
+}
+
+/// Whether `tidy` may print this for a text, and for what it printed this again.
+fn may_tidy(sheet: &str, out: &str, again: &str) -> bool {
+    let sheet = (sheet.into(), Entry::Text(sheet.into()));
+    let tidying = Tidying::new(&sheet);
+    tidying.judge(&printed(out), &printed(again)).is_ok()
+}
+
+#[test]
+fn only_the_tidy_text_may_be_written() {
+    let header = "%%MatrixMarket matrix coordinate integer symmetric";
+    let capital = header.replace("coordinate", "Coordinate");
+    let untidy = &format!("{capital}\n% 3\n10 10  3\n10 2 0\n\n2 1 7\n10 1 -5");
+    let tidy = &format!("{header}\n10 10 3\n2 1 7\n10 1 -5\n10 2 0\n");
+    assert!(may_tidy(untidy, tidy, tidy));
+    assert!(may_tidy(tidy, tidy, tidy));
+    for wrong in [
+        untidy.to_string(),
+        tidy.replace("coordinate", "Coordinate"),
+        tidy.replace("symmetric", "general"),
+        tidy.replace("symmetric\n", "symmetric\n% 3\n"),
+        tidy.replace("10 10 3", "10 10  3"),
+        tidy.replace("10 10 3\n2 1 7", "10 10 2"),
+        tidy.replace("2 1 7\n10 1 -5", "10 1 -5\n2 1 7"),
+        tidy.replace("10 1 -5\n10 2 0", "10 2 0\n10 1 -5"),
+        tidy.replace("10 1 -5\n10 2 0", "10 1 0\n10 2 -5"),
+        tidy.replace("-5", "5"),
+        tidy.replace("2 0\n", "2 -0\n"),
+        tidy.replace(" 7\n", " 07\n"),
+        tidy.trim_end().to_string(),
+        format!("{tidy}\n"),
+        format!("{tidy}\0"),
+        "refused 5 at 6 in sheet.mtx\n".into(),
+        String::new(),
+    ] {
+        assert!(!may_tidy(untidy, &wrong, tidy), "{wrong:?}");
+        assert!(!may_tidy(untidy, tidy, &wrong), "{wrong:?} again");
+    }
+}
+
+#[test]
+fn what_is_no_sheet_may_not_be_tidied() {
+    let sheet = "%%MatrixMarket matrix coordinate integer general\n2 2 2\n2 1 7\n2 1 7\n";
+    let line = "refused 8 at 4 in sheet.mtx\n";
+    let again = "refused 2 at 1 in sheet.mtx\n";
+    assert!(may_tidy(sheet, line, again));
+    for wrong in [
+        sheet,
+        "refused 8 at 2 in sheet.mtx\n",
+        "refused 8 at 4 in input\n",
+        "refused 8 at 4 in sheet.mtx",
+        again,
+        "",
+    ] {
+        assert!(!may_tidy(sheet, wrong, again), "{wrong:?}");
+    }
+    assert!(!may_tidy(sheet, line, line));
+}
+
+#[test]
+fn an_exit_status_is_compared_in_both_runs() {
+    let tidy = "%%MatrixMarket matrix coordinate integer general\n2 2 0\n";
+    let sheet = ("a tidy sheet".into(), Entry::Text(tidy.into()));
+    let tidying = Tidying::new(&sheet);
+    let failed = Printed {
+        status: Some(1),
+        ..printed(tidy)
+    };
+    assert!(tidying.judge(&printed(tidy), &printed(tidy)).is_ok());
+    assert!(tidying.judge(&failed, &printed(tidy)).is_err());
+    assert!(tidying.judge(&printed(tidy), &failed).is_err());
 }

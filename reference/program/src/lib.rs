@@ -1,6 +1,6 @@
 //! The separately written program of document 01, "The crossing sheet, its
-//! plans and its prices", and of document 02's requests for an index and for
-//! one way to write a number.
+//! plans and its prices", and of document 02's requests for an index, for one
+//! way to write a number and for the tidy sheet.
 //!
 //! It uses the field's words. Each definition says which word of the documents
 //! it is.
@@ -19,13 +19,14 @@ pub mod refusal;
 pub mod rewrite;
 pub mod solve;
 pub mod text;
+pub mod tidy;
 pub mod write;
 
 pub use brute::{feasible_subgraphs, largest_weight, FeasibleSubgraphs};
 pub use graph::{Graph, Head, Kind, OwnedGraph};
 pub use index::{build_index, index_length, test_index};
 pub use measure::{measure, Measures};
-pub use programs::{mark_output, solve_output, Files};
+pub use programs::{mark_output, solve_output, tidy_output, Files};
 pub use random::{random_graph, Random};
 pub use read::{read_graph, read_graph_by, read_numbers, read_numbers_by};
 pub use read::{read_subgraph, read_subgraph_by, What};
@@ -33,4 +34,5 @@ pub use refusal::Refusal;
 pub use rewrite::{own_graph, rewrite};
 pub use solve::solve;
 pub use text::Rules;
+pub use tidy::tidy_graph;
 pub use write::write_subgraph;

@@ -1,17 +1,18 @@
-//! What the programs `solve` and `mark` print.
+//! What the programs `solve`, `mark` and `tidy` print.
 
-use crate::graph::{Graph, Head, Kind, MOST_EDGES};
+use crate::graph::{Graph, OwnedGraph, MOST_EDGES};
 use crate::index::{build_index, index_length};
 use crate::measure::measure;
 use crate::read::{read_graph, read_numbers, read_subgraph, What};
 use crate::refusal::Refusal;
 use crate::solve::{solve, WORKSPACE};
+use crate::tidy::{tidy_graph, SHEET_TEXT};
 use crate::write::{write_subgraph, PLAN_TEXT};
 
-/// The files of the two programs; an absent one is `None`.
+/// The files of the three programs; an absent one is `None`.
 #[derive(Clone, Copy, Debug, Default)]
 pub struct Files<'a> {
-    /// The graph (sheet.mtx).
+    /// The graph (sheet.mtx), all that `tidy` reads.
     pub graph: Option<&'a [u8]>,
     /// The bounds (limits.mtx).
     pub bounds: Option<&'a [u8]>,
@@ -46,51 +47,46 @@ pub fn printed(result: &Result<Vec<u8>, Refused>) -> Vec<u8> {
     }
 }
 
-/// A graph, its bounds and the arrays that hold them.
+/// Reads sheet.mtx.
+fn read_sheet(files: &Files) -> Result<OwnedGraph, Refused> {
+    let lent = MOST_EDGES as usize;
+    let (mut row, mut column, mut weight) = (vec![0; lent], vec![0; lent], vec![0; lent]);
+    let text = files.graph.unwrap_or_default();
+    let head = read_graph(text, &mut row, &mut column, &mut weight).map_err(from("sheet.mtx"))?;
+    let m = head.edges as usize;
+    row.truncate(m);
+    column.truncate(m);
+    weight.truncate(m);
+    Ok(OwnedGraph {
+        kind: head.kind,
+        rows: head.rows,
+        columns: head.columns,
+        row,
+        column,
+        weight,
+    })
+}
+
+/// A graph and its bounds.
 pub struct Input {
-    head: Head,
-    row: Vec<u32>,
-    column: Vec<u32>,
-    weight: Vec<i32>,
+    graph: OwnedGraph,
     bound: Vec<i32>,
 }
 
 impl Input {
     /// Reads sheet.mtx and limits.mtx.
     pub fn read(files: &Files) -> Result<Input, Refused> {
-        let lent = MOST_EDGES as usize;
-        let (mut row, mut column, mut weight) = (vec![0; lent], vec![0; lent], vec![0; lent]);
-        let text = files.graph.unwrap_or_default();
-        let head =
-            read_graph(text, &mut row, &mut column, &mut weight).map_err(from("sheet.mtx"))?;
-        let count = match head.kind {
-            Kind::Bipartite => head.rows + head.columns,
-            Kind::General => head.rows,
-        };
+        let graph = read_sheet(files)?;
+        let count = graph.lend().vertices() as u32;
         let mut bound = vec![0; count as usize];
         let text = files.bounds.unwrap_or_default();
         read_numbers(text, count, What::Bounds, &mut bound).map_err(from("limits.mtx"))?;
-        Ok(Input {
-            head,
-            row,
-            column,
-            weight,
-            bound,
-        })
+        Ok(Input { graph, bound })
     }
 
     /// The graph as lent to a call.
     pub fn graph(&self) -> Graph<'_> {
-        let m = self.head.edges as usize;
-        Graph {
-            kind: self.head.kind,
-            rows: self.head.rows,
-            columns: self.head.columns,
-            edges: self.head.edges,
-            row: &self.row[..m],
-            column: &self.column[..m],
-            weight: &self.weight[..m],
-        }
+        self.graph.lend()
     }
 
     /// The bounds (limits).
@@ -107,6 +103,11 @@ pub fn solve_output(files: &Files) -> Vec<u8> {
 /// What `mark` prints.
 pub fn mark_output(files: &Files) -> Vec<u8> {
     printed(&mark_files(files))
+}
+
+/// What `tidy` prints.
+pub fn tidy_output(files: &Files) -> Vec<u8> {
+    printed(&tidy_files(files))
 }
 
 /// The plan that `solve` prints, or its refusal.
@@ -164,4 +165,13 @@ pub fn mark_files(files: &Files) -> Result<Vec<u8>, Refused> {
         found.weight, found.total, found.vertices, found.sets, found.edges, found.cover, found.gap
     );
     Ok(line.into_bytes())
+}
+
+/// The tidy text that `tidy` prints, or its refusal.
+pub fn tidy_files(files: &Files) -> Result<Vec<u8>, Refused> {
+    let graph = read_sheet(files)?;
+    let mut out = vec![0; SHEET_TEXT];
+    let length = tidy_graph(&graph.lend(), &mut out).map_err(from("input"))?;
+    out.truncate(length);
+    Ok(out)
 }

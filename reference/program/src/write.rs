@@ -1,4 +1,4 @@
-//! The subgraph writer.
+//! The subgraph writer, and the text that a writer appends to.
 
 use crate::graph::{graph_lengths_right, has_length, test_chosen, test_graph, Graph, Kind};
 use crate::refusal::Refusal;
@@ -19,34 +19,25 @@ pub fn write_subgraph(graph: &Graph, chosen: &[u8], out: &mut [u8]) -> Result<us
     test_graph(graph)?;
     test_chosen(chosen)?;
 
+    // The longest text, of 1,024 lines of 8 bytes and less than 100 bytes
+    // before them, fits.
     let mut text = Text { out, length: 0 };
-    text.bytes(match graph.kind {
-        Kind::Bipartite => b"%%MatrixMarket matrix coordinate pattern general\n",
-        Kind::General => b"%%MatrixMarket matrix coordinate pattern symmetric\n",
-    });
+    text.header(b"pattern", graph.kind);
     let count = chosen.iter().filter(|&&mark| mark == 1).count() as u32;
-    text.number(graph.rows);
-    text.bytes(b" ");
-    text.number(graph.columns);
-    text.bytes(b" ");
-    text.number(count);
-    text.bytes(b"\n");
+    text.line([graph.rows, graph.columns, count]);
     for (edge, &mark) in chosen.iter().enumerate() {
         if mark == 1 {
-            text.number(graph.row[edge]);
-            text.bytes(b" ");
-            text.number(graph.column[edge]);
-            text.bytes(b"\n");
+            text.line([graph.row[edge], graph.column[edge]]);
         }
     }
     Ok(text.length)
 }
 
-/// A text growing in lent bytes. The longest subgraph text, of 1,024 lines of
-/// 8 bytes and less than 100 bytes before them, fits.
-struct Text<'a> {
-    out: &'a mut [u8],
-    length: usize,
+/// A text growing in lent bytes that have room for all of it.
+pub(crate) struct Text<'a> {
+    pub(crate) out: &'a mut [u8],
+    /// The length of the text so far.
+    pub(crate) length: usize,
 }
 
 impl Text<'_> {
@@ -56,11 +47,36 @@ impl Text<'_> {
         self.length += bytes.len();
     }
 
-    /// Appends a number without leading zeros.
-    fn number(&mut self, number: u32) {
-        let mut digits = [0; 10];
+    /// Appends the header of a text of coordinates: its field and its kind.
+    pub(crate) fn header(&mut self, field: &[u8], kind: Kind) {
+        self.bytes(b"%%MatrixMarket matrix coordinate ");
+        self.bytes(field);
+        self.bytes(match kind {
+            Kind::Bipartite => b" general\n",
+            Kind::General => b" symmetric\n",
+        });
+    }
+
+    /// Appends a line of numbers with one space between them.
+    pub(crate) fn line<T: Into<i64>, const COUNT: usize>(&mut self, numbers: [T; COUNT]) {
+        for (at, number) in numbers.into_iter().enumerate() {
+            if at > 0 {
+                self.bytes(b" ");
+            }
+            self.number(number.into());
+        }
+        self.bytes(b"\n");
+    }
+
+    /// Appends a number: a - if it is below 0, and its digits without leading
+    /// zeros.
+    fn number(&mut self, number: i64) {
+        if number < 0 {
+            self.bytes(b"-");
+        }
+        let mut digits = [0; 20];
         let mut first = digits.len();
-        let mut left = number;
+        let mut left = number.unsigned_abs();
         loop {
             first -= 1;
             digits[first] = b'0' + (left % 10) as u8;

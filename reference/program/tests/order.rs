@@ -148,6 +148,24 @@ fn order_of_write() {
 }
 
 #[test]
+fn order_of_tidy() {
+    let mut edges = broken_edges();
+    let mut rows = 65;
+    let mut out = vec![7; 32_767];
+    for expected in [9, 4, 6, 7, 8, 0] {
+        let graph = OwnedGraph::new(Kind::Bipartite, rows, 3, &edges);
+        let found = tidy_graph(&graph.lend(), &mut out);
+        assert_eq!(found.err().map_or(0, |refusal| refusal.number), expected);
+        match expected {
+            9 => out.push(7),
+            4 => rows = 2,
+            6..=8 => mend(&mut edges, expected),
+            _ => {}
+        }
+    }
+}
+
+#[test]
 fn order_of_the_subgraph_reader() {
     let mut edges = broken_edges();
     let mut rows = 65;

@@ -1,4 +1,4 @@
-//! What `solve` and `mark` print.
+//! What `solve`, `mark` and `tidy` print.
 
 mod common;
 use common::*;
@@ -62,6 +62,15 @@ fn mark_prints(files: &Files) -> String {
     String::from_utf8(mark_output(files)).unwrap()
 }
 
+/// What `tidy` prints for a text of sheet.mtx.
+fn tidy_prints(sheet: &[u8]) -> Vec<u8> {
+    let files = Files {
+        graph: Some(sheet),
+        ..Files::default()
+    };
+    tidy_output(&files)
+}
+
 #[test]
 fn worked_example_of_solve() {
     let files = Files {
@@ -111,7 +120,9 @@ fn absent_files_are_empty_texts() {
     let absent = |name: &str| format!("refused 2 at 1 in {name}\n");
     assert_eq!(solve_prints(&files), absent("sheet.mtx"));
     assert_eq!(mark_prints(&files), absent("sheet.mtx"));
+    assert_eq!(tidy_output(&files), absent("sheet.mtx").as_bytes());
     files.graph = Some(SHEET);
+    assert_eq!(tidy_output(&files), SHEET);
     assert_eq!(solve_prints(&files), absent("limits.mtx"));
     assert_eq!(mark_prints(&files), absent("limits.mtx"));
     files.bounds = Some(LIMITS);
@@ -194,4 +205,39 @@ fn refusals_are_printed_with_their_file() {
         ..right
     };
     assert_eq!(solve_prints(&files), "refused 10 at 4 in limits.mtx\n");
+}
+
+#[test]
+fn a_sheet_is_tidied() {
+    let header = "%%MatrixMarket  MATRIX\tCoordinate integer General ";
+    let untidy = format!("{header}\n% 2 2 9\n\n 2 2\t4 \n2 2 1\n \t\n1 2 4\n2 1  4\n1 1 5");
+    assert_eq!(tidy_prints(untidy.as_bytes()), SHEET);
+    assert_eq!(tidy_prints(SHEET), SHEET);
+    let untidy = sheet("SYMMETRIC", "3 3 2\n3 1 0\n2 1 -7\n\n");
+    let tidy = sheet("symmetric", "3 3 2\n2 1 -7\n3 1 0\n");
+    assert_eq!(tidy_prints(&untidy), tidy);
+    assert_eq!(tidy_prints(&tidy), tidy);
+}
+
+#[test]
+fn what_is_no_sheet_is_not_tidied() {
+    let long = vec![b' '; 32_769];
+    let (empty, plan_text) = (&[][..], plan("general", "1 1 0\n"));
+    let wrong = |lines: &str| sheet("general", lines);
+    for (text, number, place) in [
+        (&long[..], 1, 0),
+        (empty, 2, 1),
+        (&plan_text, 2, 1),
+        (&wrong("2 02 0\n"), 3, 2),
+        (&wrong("%\n65 2 0\n"), 4, 3),
+        (&wrong("2 2 1\n\n1 1 +7\n"), 5, 4),
+        (&wrong("2 2 2\n1 1 7\n"), 5, 4),
+        (&wrong("2 2 0\n% no comment\n"), 5, 3),
+        (&wrong("2 2 2\n2 1 7\n1 3 7\n"), 6, 4),
+        (&wrong("2 2 2\n2 1 7\n1 1 1000001\n"), 7, 4),
+        (&wrong("2 2 3\n2 1 7\n1 1 5\n2 1 7\n"), 8, 5),
+    ] {
+        let line = format!("refused {number} at {place} in sheet.mtx\n");
+        assert_eq!(tidy_prints(text), line.as_bytes());
+    }
 }

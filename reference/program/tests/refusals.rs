@@ -165,6 +165,7 @@ fn refusal_4_sizes_passed() {
     let graph = OwnedGraph::new(Kind::Bipartite, 64, 64, &edges[1..]);
     assert!(solved(&graph.lend(), &[1; 128]).is_ok());
     assert!(written(&graph.lend(), &[0; 1_024]).is_ok());
+    assert!(tidied(&graph.lend()).is_ok());
 }
 
 #[test]
@@ -355,6 +356,7 @@ fn refusal_9_graph_lengths_of_calls() {
         let mut out = [7; 16_384];
         let found = write_subgraph(&wrong, &[0; 4], &mut out);
         assert_eq!((found, out), (Err(refusal(9, 0)), [0; 16_384]));
+        assert_eq!(tidied(&wrong), Err(refusal(9, 0)));
 
         let (mut chosen, mut vertex_price, mut edge_price) = ([7; 4], [7; 4], [7; 4]);
         let mut workspace = [7; 4_096];
@@ -382,11 +384,17 @@ fn refusal_9_graph_lengths_of_calls() {
 }
 
 #[test]
-fn refusal_9_other_lengths_of_the_writer() {
+fn refusal_9_other_lengths_of_the_writers() {
     let graph = case_2();
     for (marks, bytes) in [(3, 16_384), (5, 16_384), (4, 16_383), (4, 16_385), (4, 0)] {
         let mut out = vec![7; bytes];
         let found = write_subgraph(&graph.lend(), &vec![0; marks], &mut out);
+        assert_eq!(found, Err(refusal(9, 0)));
+        assert!(out.iter().all(|&x| x == 0));
+    }
+    for bytes in [0, 16_384, 32_767, 32_769] {
+        let mut out = vec![7; bytes];
+        let found = tidy_graph(&graph.lend(), &mut out);
         assert_eq!(found, Err(refusal(9, 0)));
         assert!(out.iter().all(|&x| x == 0));
     }

@@ -7,7 +7,7 @@ use lib.IntN.{ℤ, pos}
 use lib.ListN.{length, take, replicate}
 use denote.Ref.{now}
 use Rattle.graph.specs.Graph.{Graph, graphOf}
-use Rattle.problem_reader.proofs.Lent.{first-long, PartBack, came-back}
+use Rattle.lent.proofs.Parts.{first-long, PartBack, came-back}
 use Rattle.mark_writer.proofs.Stages.{same-line, vertices-priced, plan-ends, plan-goes}
 use borrow.Author.Needs.{needs}
 use Rattle.mark_writer.proofs.mark_plan.Statement.{statement}

@@ -1,7 +1,7 @@
 -- `mark_prices` lends the measuring call the prices in two parts, so what it answers is what the stage comes to.
 use denote.Ref.{now}
 use Rattle.graph.specs.Graph.{graphOf}
-use Rattle.problem_reader.proofs.Lent.{first-long}
+use Rattle.lent.proofs.Parts.{first-long}
 use Rattle.mark_writer.proofs.Stages.{prices-composed}
 use borrow.Author.Needs.{needs}
 use Rattle.mark_writer.proofs.mark_prices.Statement.{statement}

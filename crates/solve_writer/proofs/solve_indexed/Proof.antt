@@ -6,8 +6,8 @@ use lib.ListN.{drop}
 use denote.Ref.{now}
 use Rattle.graph.specs.Graph.{Graph, graphOf}
 use Rattle.report.specs.Programs.{lentFor}
-use Rattle.problem_reader.proofs.Lent.{PartBack, came-back}
-use Rattle.solve_writer.proofs.Answers.{noMarks, zeros-lent, lentParts, all-lent, refusal-left, solved-passed, part-marks, part-written}
+use Rattle.lent.proofs.Parts.{PartBack, came-back, zeros-lent}
+use Rattle.solve_writer.proofs.Answers.{noMarks, lentParts, all-lent, refusal-left, solved-passed, part-marks, part-written}
 use borrow.Author.Needs.{needs}
 use Rattle.solve_writer.proofs.solve_indexed.Statement.{statement}
 use Rattle.solve_writer.proofs.solve_indexed.Tie as tie

@@ -5,8 +5,8 @@ use denote.Ref.{now}
 use lib.ListN.{length, take}
 use Rattle.graph.specs.Graph.{Graph, graphOf}
 use Rattle.graph.specs.Index.{indexNumbers}
-use Rattle.problem_reader.proofs.Lent.{PartBack, came-back}
-use Rattle.solve_writer.proofs.Answers.{zeros-lent, noIndex, index-fits, index-refused, index-solved}
+use Rattle.lent.proofs.Parts.{PartBack, came-back, zeros-lent}
+use Rattle.solve_writer.proofs.Answers.{noIndex, index-fits, index-refused, index-solved}
 use borrow.Author.Needs.{needs}
 use Rattle.solve_writer.proofs.solve_problem.Statement.{statement}
 use Rattle.solve_writer.proofs.solve_problem.Tie as tie

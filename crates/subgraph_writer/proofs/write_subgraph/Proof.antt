@@ -6,7 +6,8 @@ use lib.ListN.{length}
 use denote.Ref.{now}
 use Rattle.graph.specs.Refusal.{Outcome, told, reported, output}
 use Rattle.graph.specs.Graph.{Graph, graphOf}
-use Rattle.subgraph_writer.proofs.Tested.{refused, size, fits, answered, filled-in}
+use Rattle.subgraph_writer.proofs.Tested.{refused, yielded, size, fits}
+use Rattle.writer.proofs.Answered.{answered, filled-in}
 use borrow.Author.Needs.{needs}
 use Rattle.subgraph_writer.proofs.write_subgraph.Statement.{statement}
 use Rattle.subgraph_writer.proofs.write_subgraph.Tie as tie
@@ -42,7 +43,9 @@ returns-2 c =
     let k = c .before .before .before .before .before .before .check-marks .ensures in
     let p = c .before .before .before .before .enum-told .given .1 in
     let w = put-subgraph .ensures (now (s .args .weight)) in
-    (answered (graph s) (now (s .args .chosen)) n k p w, filled-in (graph s) (now (s .args .chosen)) n k p w)
+    let is = yielded (graph s) (now (s .args .chosen)) n k p in
+    let long = size (graph s) (now (s .args .chosen)) n k p in
+    (answered is long w, filled-in is long w)
 
 pub write-subgraph-spec : {M : Type 1} → statement M
 write-subgraph-spec =

@@ -10,13 +10,13 @@ put-sizes-requires : tie.Need-put-sizes-requires
 put-sizes-requires c κs =
     let s = c .before .before .before .before .before .before .before .before .before .before in
     let h = c .before .before .before .put-header in
-    omega (arith, header-at (s .args .s .kind) (h .ensures), s .pre, h .kept .0, c .before .before .before .before .before .before .before .clear-bytes .kept .0)
+    omega (arith, header-at (s .args .field) (s .args .s .kind) (h .ensures), s .pre, h .kept .0, c .before .before .before .before .before .before .before .clear-bytes .kept .0)
 
 returns : tie.Need-returns
 returns c =
     let s = c .before .before .before .before .before .before .before .before .before .before .before .before .before in
     let a = s .args in
-    head-puts (now (a .out)) (a .s .kind) (a .s .rows) (a .s .columns) (a .count) (s .pre) (omega (arith, s .good .1 .0)) (omega (arith, s .good .1 .0)) (s .fits .count .fits)
+    head-puts (now (a .out)) (a .field) (a .s) (a .count) (s .pre) (omega (arith, s .good .1 .1 .0)) (omega (arith, s .good .1 .1 .0)) (s .fits .count .fits)
     (c .before .before .before .before .before .before .before .before .before .before .clear-bytes .ensures)
     (c .before .before .before .before .before .before .put-header .ensures)
     (c .before .before .put-sizes .ensures)

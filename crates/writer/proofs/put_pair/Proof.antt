@@ -5,7 +5,7 @@ use Prim.Native.Nat.{_+_, _-_}
 use denote.Ref.{now}
 use borrow.Rule.Slice.PartMut.{putMid}
 use lib.ListN.{length, set, length-set}
-use Rattle.writer.proofs.Lines.{Field, field, field-room, Pair, pair}
+use Rattle.writer.proofs.Lines.{Number, number, number-room, Pair, pair}
 use Rattle.writer.proofs.put_pair.Statement.{statement}
 use Rattle.writer.proofs.put_pair.Tie as tie
 
@@ -15,10 +15,10 @@ start1 c = c .before .before .before
 
 first : (c : tie.After-put-number) →
     let a = start1 c .args in
-    Field (now (a .out)) (a .at) (a .m) (putMid (a .at) (length (now (a .out)) - a .at) (now (a .out)) (c .put-number .last .0)) (c .put-number .result)
+    Number (now (a .out)) (a .at) (a .m) (putMid (a .at) (length (now (a .out)) - a .at) (now (a .out)) (c .put-number .last .0)) (c .put-number .result)
 first c =
     let s = start1 c in
-    field (now (s .args .out)) (s .args .at) (s .args .m) (omega (arith, s .pre)) (s .fits .m .fits) (c .put-number .ensures)
+    number (now (s .args .out)) (s .args .at) (s .args .m) (omega (arith, s .pre)) (s .fits .m .fits) (c .put-number .ensures)
 
 abbrev after1 : tie.After-put-number2 → tie.After-put-number
 after1 c = c .before .before .before .before
@@ -48,7 +48,7 @@ part-put-number-start-2 : tie.Need-part-put-number-start-2
 part-put-number-start-2 c = omega (arith, first (c .before .before), start1 (c .before .before) .pre)
 
 put-number-requires-2 : tie.Need-put-number-requires-2
-put-number-requires-2 c κs = field-room (first (c .before .before .before)) (omega (arith, start1 (c .before .before .before) .pre))
+put-number-requires-2 c κs = number-room (first (c .before .before .before)) (omega (arith, start1 (c .before .before .before) .pre))
 
 add-e : tie.Need-add-e
 add-e c = omega (arith, second (c .before .before), start1 (after1 (c .before .before)) .good .0 .0)

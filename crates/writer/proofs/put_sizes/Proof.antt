@@ -6,7 +6,7 @@ use denote.Ref.{now}
 use borrow.Rule.Slice.PartMut.{putMid}
 use lib.ListN.{length}
 use mathlib.Core.Path.{_∙_}
-use Rattle.writer.proofs.Lines.{Field, field, sizes-put}
+use Rattle.writer.proofs.Lines.{Number, number, sizes-put}
 use Rattle.writer.proofs.put_sizes.Statement.{statement}
 use Rattle.writer.proofs.put_sizes.Tie as tie
 
@@ -16,10 +16,10 @@ start1 c = c .before .before .before
 
 first : (c : tie.After-put-number) →
     let a = start1 c .args in
-    Field (now (a .out)) (a .at) (a .rows) (putMid (a .at) (length (now (a .out)) - a .at) (now (a .out)) (c .put-number .last .0)) (c .put-number .result)
+    Number (now (a .out)) (a .at) (a .rows) (putMid (a .at) (length (now (a .out)) - a .at) (now (a .out)) (c .put-number .last .0)) (c .put-number .result)
 first c =
     let s = start1 c in
-    field (now (s .args .out)) (s .args .at) (s .args .rows) (omega (arith, s .pre)) (s .fits .rows .fits) (c .put-number .ensures)
+    number (now (s .args .out)) (s .args .at) (s .args .rows) (omega (arith, s .pre)) (s .fits .rows .fits) (c .put-number .ensures)
 
 add-a : tie.Need-add-a
 add-a c = let s = start1 (c .before .before) in omega (arith, first (c .before .before), s .pre, s .good .0 .0)

@@ -5,12 +5,12 @@ use native.Mathlib.Omega.{arith}
 use borrow.Author.Needs.{needs}
 use denote.Ref.{now}
 use lib.ListN.{length}
-use Rattle.writer.proofs.Subgraph.{Writing, writing-starts, writing-more, writing-ends, few, marks-few, line-room, head-room, subgraph-written}
+use Rattle.writer.proofs.Subgraph.{EdgesWriting, edges-start, edges-more, edges-end, few, marks-few, line-room, head-room, subgraph-written}
 use Rattle.writer.proofs.put_subgraph.Statement.{statement}
 use Rattle.writer.proofs.put_subgraph.Tie as tie
 
 abbrev Inv-loop : tie.InvT-loop
-Inv-loop out₀ row column chosen at₀ e₀ out at e = Writing row column chosen out₀ at₀ out at e
+Inv-loop out₀ row column chosen at₀ e₀ out at e = EdgesWriting row column chosen out₀ at₀ out at e
 
 abbrev μ-loop : tie.MeasureT-loop
 μ-loop out₀ row column chosen at₀ e₀ out at e = length row - e
@@ -26,7 +26,7 @@ loop-holds : tie.Need-loop-holds Inv-loop μ-loop
 loop-holds c =
     let s = c .before .before .before .before .before .before .before .before .before in
     let h = c .before .before .put-head in
-    writing-starts _ _ _ _ _
+    edges-start (s .pre .1 .0) (s .pre .1 .1) _ _
     (head-room (s .pre .1 .0) (s .pre .1 .1) (now (s .args .out)) (s .pre .0) (c .before .before .before .count-chosen .ensures) (h .ensures) (h .kept .0))
 
 mul-put-edge-2 : tie.Need-mul-put-edge-2 Inv-loop μ-loop
@@ -55,7 +55,7 @@ loop-again c =
     let at-loop = at-loop-test .before in
     let s = at-loop .before .before .before .before .before .before .before .before .before .before in
     let p = c .before .before .put-edge in
-    writing-more (s .pre .1 .0) (s .pre .1 .1) (at-loop .loop .inv) (at-loop-test .loop-test .taken) (p .kept .0) (p .ensures)
+    edges-more (s .pre .1 .0) (s .pre .1 .1) (at-loop .loop .inv) (at-loop-test .loop-test .taken) (p .kept .0) (p .ensures)
 
 same-length : tie.Need-same-length Inv-loop μ-loop
 same-length c = c .before .loop .inv .long ∙ c .before .before .before .before .put-head .kept .0
@@ -67,7 +67,7 @@ returns c =
     let s = at-count-chosen .before .before .before .before .before .before in
     λ w. subgraph-written (s .pre .1 .0) (s .pre .1 .1) (now (s .args .out)) (s .pre .0) (at-count-chosen .count-chosen .ensures)
     (at-put-head .put-head .ensures) w
-    (writing-ends (s .pre .1 .0) (s .pre .1 .1) (c .before .loop .inv) (c .loop-test .left) w)
+    (edges-end (s .pre .1 .0) (s .pre .1 .1) (c .before .loop .inv) (c .loop-test .left) w)
 
 pub put-subgraph-spec : {M : Type 1} → statement M
 put-subgraph-spec =

@@ -5,6 +5,7 @@ use compare::indexes::{Building, Testing};
 use compare::measures::Measuring;
 use compare::proved;
 use compare::readings::{ReadingNumbers, ReadingSubgraph};
+use compare::tidies::Tidying;
 use reference::{Kind, Random, What};
 use std::hint::black_box;
 use std::time::Instant;
@@ -30,12 +31,18 @@ fn show(name: &str, ours: f64, theirs: f64) {
     );
 }
 
-/// A bipartite graph with weights from their whole range, and bounds 1 to 4.
-fn sheet(random: &mut Random, side: u32, edges: usize) -> (Lent, Vec<i32>) {
-    let mut lent = Lent::right(random, Kind::Bipartite, side, side, edges);
+/// A graph with weights from their whole range.
+fn graph(random: &mut Random, kind: Kind, side: u32, edges: usize) -> Lent {
+    let mut lent = Lent::right(random, kind, side, side, edges);
     for weight in &mut lent.weight {
         *weight = random.between(-1_000_000, 1_000_000);
     }
+    lent
+}
+
+/// A bipartite graph with weights from their whole range, and bounds 1 to 4.
+fn sheet(random: &mut Random, side: u32, edges: usize) -> (Lent, Vec<i32>) {
+    let lent = graph(random, Kind::Bipartite, side, edges);
     let bound = (0..lent.vertices()).map(|_| random.between(1, 4)).collect();
     (lent, bound)
 }
@@ -172,6 +179,33 @@ fn measures() {
     }
 }
 
+fn tidies() {
+    for (kind, side, edges) in [
+        (Kind::Bipartite, 64, 128),
+        (Kind::Bipartite, 64, 256),
+        (Kind::Bipartite, 64, 512),
+        (Kind::Bipartite, 64, 1024),
+        (Kind::General, 128, 1024),
+    ] {
+        let mut random = Random::new(7);
+        let graphs = (0..101).map(|_| graph(&mut random, kind, side, edges));
+        let inputs: Vec<_> = graphs.collect();
+        let mut out = vec![0u8; 32_768];
+        let [ours, theirs] = [proved::tidy_graph, reference::tidy_graph as Tidying].map(|tidy| {
+            median(&inputs, |lent| {
+                out.fill(0);
+                black_box(tidy(&lent.lend(), &mut out)).unwrap();
+            })
+        });
+        let sides = match kind {
+            Kind::Bipartite => format!("{side} by {side}"),
+            Kind::General => format!("{side} vertices"),
+        };
+        let name = format!("tidy a graph, {sides}, {edges} edges");
+        show(&name, ours, theirs);
+    }
+}
+
 fn indexes() {
     for edges in [256, 512, 1024] {
         let mut random = Random::new(4);
@@ -250,6 +284,7 @@ fn main() {
     graph_readers();
     number_readers();
     subgraph_readers();
+    tidies();
     measures();
     indexes();
     solvers();

@@ -1,7 +1,7 @@
 //! Compares the proved calls with the separately written program.
 
 use compare::tally::finish;
-use compare::{indexes, measures, readers, solves, spellings};
+use compare::{indexes, measures, readers, solves, spellings, tidies};
 
 fn main() {
     let mut results = readers::compare(2_026, 60_000);
@@ -9,5 +9,6 @@ fn main() {
     results.extend(measures::compare(2_027, 120_000));
     results.extend(indexes::compare(2_030, 40_000));
     results.extend(solves::compare(2_028, 32_000));
+    results.extend(tidies::compare(2_033, 40_000));
     finish(&results);
 }

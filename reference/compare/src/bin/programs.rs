@@ -1,8 +1,8 @@
-//! Compares the built programs `solve`, `mark` and `rewrite` with the separately written program: `programs BIN_FOLDER [--valgrind]`.
+//! Compares the built programs `solve`, `mark`, `rewrite` and `tidy` with the separately written program: `programs BIN_FOLDER [--valgrind]`.
 
 use compare::runs::Built;
 use compare::tally::finish;
-use compare::{programs, rewrites};
+use compare::{programs, rewrites, tidy_runs};
 use std::io;
 use std::path::Path;
 
@@ -10,6 +10,7 @@ fn compare(folder: &Path, valgrind: bool) -> io::Result<Vec<bool>> {
     let built = Built::new(folder, valgrind)?;
     let mut results = programs::compare(2_029, 3_000, &built)?;
     results.extend(rewrites::compare(2_032, 4_000, &built)?);
+    results.extend(tidy_runs::compare(2_034, 4_000, &built)?);
     Ok(results)
 }
 

@@ -94,10 +94,13 @@ pub fn subgraph_of(text: &[u8], graph: &Graph) -> Result<Vec<u8>, Refusal> {
     }
 }
 
-/// The subgraph writer, with an output of 16,384 bytes.
-pub fn written(graph: &Graph, chosen: &[u8]) -> Result<Vec<u8>, Refusal> {
-    let mut out = vec![7; 16_384];
-    match write_subgraph(graph, chosen, &mut out) {
+/// A writer, with an output of this many bytes.
+fn text_of(
+    bytes: usize,
+    write: impl FnOnce(&mut [u8]) -> Result<usize, Refusal>,
+) -> Result<Vec<u8>, Refusal> {
+    let mut out = vec![7; bytes];
+    match write(&mut out) {
         Ok(length) => {
             assert!(out[length..].iter().all(|&x| x == 0));
             out.truncate(length);
@@ -108,6 +111,16 @@ pub fn written(graph: &Graph, chosen: &[u8]) -> Result<Vec<u8>, Refusal> {
             Err(refusal)
         }
     }
+}
+
+/// The subgraph writer, with an output of 16,384 bytes.
+pub fn written(graph: &Graph, chosen: &[u8]) -> Result<Vec<u8>, Refusal> {
+    text_of(16_384, |out| write_subgraph(graph, chosen, out))
+}
+
+/// The tidy text of a graph, with an output of 32,768 bytes.
+pub fn tidied(graph: &Graph) -> Result<Vec<u8>, Refusal> {
+    text_of(32_768, |out| tidy_graph(graph, out))
 }
 
 /// Building an index, with an output of the length that the numbers passed give.
@@ -246,7 +259,7 @@ pub fn measures(line: [i64; 7]) -> Measures {
     }
 }
 
-/// Tests that all six calls that take a graph refuse it so, given other
+/// Tests that all seven calls that take a graph refuse it so, given other
 /// numbers of right lengths.
 pub fn all_refuse(graph: &Graph, expected: Refusal) {
     let (n, m) = (vertices(graph), graph.edges as usize);
@@ -254,6 +267,7 @@ pub fn all_refuse(graph: &Graph, expected: Refusal) {
     let (vertex_price, edge_price) = (vec![0; n], vec![0; m]);
     assert_eq!(subgraph_of(b"", graph), Err(expected));
     assert_eq!(written(graph, &chosen), Err(expected));
+    assert_eq!(tidied(graph), Err(expected));
     assert_eq!(built(graph), Err(expected));
     let index = index_or_zeros(graph);
     assert_eq!(test_index(graph, &index), Err(expected));

@@ -1,7 +1,7 @@
 -- `magnitude` gives a number without its sign: below 0, one more than what is left of the number raised by 1.
-use Rattle.report.proofs.Signs.{sum-fits, negated-fits, below-casts, below-fits, above-casts, magnitude-below, magnitude-above}
-use Rattle.report.proofs.magnitude.Statement.{statement}
-use Rattle.report.proofs.magnitude.Tie as tie
+use Rattle.writer.proofs.Signs.{sum-fits, negated-fits, below-casts, below-fits, above-casts, magnitude-below, magnitude-above}
+use Rattle.writer.proofs.magnitude.Statement.{statement}
+use Rattle.writer.proofs.magnitude.Tie as tie
 
 add-result : tie.Need-add-result
 add-result c = sum-fits (c .before .args .z) (c .before .fits .z) (c .if1 .taken)

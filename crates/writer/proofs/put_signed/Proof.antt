@@ -4,9 +4,9 @@ use lib.ListN.{length-set}
 use mathlib.Core.Path.{_∙_}
 use native.Mathlib.Omega.{arith}
 use borrow.Author.Needs.{needs}
-use Rattle.report.proofs.Parts.{negative-put, positive-put}
-use Rattle.report.proofs.put_signed.Statement.{statement}
-use Rattle.report.proofs.put_signed.Tie as tie
+use Rattle.writer.proofs.Signs.{negative-put, positive-put}
+use Rattle.writer.proofs.put_signed.Statement.{statement}
+use Rattle.writer.proofs.put_signed.Tie as tie
 
 put-natural-requires : tie.Need-put-natural-requires
 put-natural-requires c κs = simp length-set (omega (arith, c .before .before .before .before .pre))

@@ -2,9 +2,9 @@
 use native.Mathlib.Omega.{arith}
 use denote.Ref.{now}
 use borrow.Author.Needs.{needs}
-use Rattle.report.proofs.Parts.{natural-put}
-use Rattle.report.proofs.put_natural.Statement.{statement}
-use Rattle.report.proofs.put_natural.Tie as tie
+use Rattle.writer.proofs.Signs.{natural-put}
+use Rattle.writer.proofs.put_natural.Statement.{statement}
+use Rattle.writer.proofs.put_natural.Tie as tie
 
 add-result : tie.Need-add-result
 add-result c =

@@ -1,11 +1,13 @@
 -- A number's magnitude, as the machine computes it, and how a number is written with its sign.
 use mathlib.Core.Path.{_≡_, ap, _∙_}
 use mathlib.Core.Bool.{true, false}
-use mathlib.Core.List.{[], _∷_, _++_}
-use Prim.Native.Nat.{ℕ, _+_}
+use mathlib.Core.List.{List, [], _∷_, _++_}
+use Prim.Native.Nat.{ℕ, _+_, _-_, _^_, _≤_, _<_}
 use native.Mathlib.Omega.{arith}
 use lib.Dec.{T}
 use lib.IntN.{ℤ, pos, negsuc, natAbs, negℤ, _+ℤ_, _-ℤ_}
+use borrow.Rule.Slice.PartMut.{putMid}
+use lib.ListN.{length, take, drop, set}
 use lib.Signed.{ltZ, mag, nonNeg, natAbs-le}
 use mir.Syntax.{w64}
 use mir.Val.{Fits, SFits, toZ, ofZ}
@@ -13,6 +15,9 @@ use mir.ValLaws.{toZ-ofZ}
 use Rattle.layout.specs.Text.{decimal, signed}
 use Rattle.integers.specs.Integer.{up, dn}
 use Rattle.integers.proofs.Order.{tests, up-add, up-neg, up-eq, fits-within}
+use Rattle.writer.specs.Written.{Puts}
+use Rattle.writer.proofs.Over.{puts-none, puts-byte, puts-next, puts-same, puts-part}
+use Rattle.writer.proofs.Put.{twenty-digits}
 
 -- The number as it is read back from its bits.
 abbrev pub fromBits : ℤ → ℤ
@@ -89,3 +94,21 @@ signed-below (negsuc k) n h e = ap (λ (m : ℕ). 45 ∷ decimal m) (e ∙ omega
 pub signed-above : (z : ℤ) (n : ℕ) → ltZ z (pos 0) ≡ false → n ≡ up z + dn z → decimal n ≡ signed z
 signed-above (pos k) n h e = let f : n ≡ k = omega arith in ap (λ (m : ℕ). decimal m) f
 signed-above (negsuc k) n h e = absurd (omega tests)
+
+-- ---- what the writers of numbers write
+
+-- A number, to whose writer the part from `at` on was lent.
+pub natural-put : (d : List ℕ) (at n : ℕ) {l : List ℕ} {k : ℕ} → n < 2 ^ 64 → Puts (take (length d - at) (drop at d)) 0 (decimal n) l k
+    → Puts d at (decimal n) (putMid at (length d - at) d l) (at + k) × (at + k ≤ at + 20)
+natural-put d at n small p = (puts-part d at p, omega (arith, p .place, twenty-digits n small))
+
+module _ (d : List ℕ) (at : ℕ) (z : ℤ) (n : ℕ) {l : List ℕ} {e : ℕ} (f : SFits w64 z) (room : at + 21 ≤ length d)
+    (is : n ≡ up (fromBits z) + dn (fromBits z)) where
+  pub negative-put : ltZ (fromBits z) (pos 0) ≡ true → Puts (set d at 45) (at + 1) (decimal n) l e × (e ≤ at + 1 + 20)
+      → Puts d at (signed z) l e × (e ≤ at + 21)
+  negative-put h (p, k) =
+      let sign : Puts d at (45 ∷ []) (set d at 45) (at + 1) = puts-byte (puts-none d at) 45 (omega arith) in
+      (rw (← toZ-ofZ w64 z f) (puts-same (puts-next sign p (omega arith)) (signed-below (fromBits z) n h is)), omega arith)
+
+  pub positive-put : ltZ (fromBits z) (pos 0) ≡ false → Puts d at (decimal n) l e × (e ≤ at + 20) → Puts d at (signed z) l e × (e ≤ at + 21)
+  positive-put h (p, k) = (rw (← toZ-ofZ w64 z f) (puts-same p (signed-above (fromBits z) n h is)), omega arith)

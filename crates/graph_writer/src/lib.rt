@@ -1,0 +1,64 @@
+// Writes a graph (sheet) as a Matrix Market text, its edges in a given order.
+use graph::Shape;
+use layout::Field;
+use writer::put_natural;
+use writer::put_signed;
+ghost use mathlib.Core.Path.{_≡_};
+ghost use mathlib.Core.List.{[], _∷_};
+ghost use Prim.Native.Nat.{_+_, _≤_, _<_};
+ghost use lib.IntN.{pos};
+ghost use lib.ListN.{length, getD};
+ghost use Rattle.graph.specs.Limits.{longestText};
+ghost use Rattle.graph.specs.Graph.{graphOf};
+ghost use Rattle.layout.specs.Text.{decimal, signed, spaced, unlines};
+ghost use Rattle.layout.specs.GraphText.{graphText};
+ghost use Rattle.layout.specs.TidyText.{inOrder};
+ghost use Rattle.writer.specs.Written.{Puts, Written};
+ghost use Rattle.graph_writer.specs.Order.{Ordered};
+
+// Writes the line of edge e from `at` on: its row, its column and its weight. The result is the place after it.
+fn put_edge(
+    out: &mut [u8],
+    at: usize,
+    row: &[u32],
+    column: &[u32],
+    weight: &[i32],
+    e: usize,
+) -> usize
+    requires { ⌜ at + 64 ≤ length (now out) ⌝ }
+    requires { ⌜ (e < length (now row)) × (e < length (now column)) × (e < length (now weight)) ⌝ }
+    ensures { λ r. ⌜ Puts (now (out .entry)) at (unlines (spaced (decimal (getD (now (row .entry)) e 0) ∷ decimal (getD (now (column .entry)) e 0)
+        ∷ signed (getD (now (weight .entry)) e (pos 0)) ∷ []) ∷ [])) (now (out .exit)) r ⌝ }
+{
+    let a = put_natural(out, at, row[e] as u64);
+    out[a] = 32;
+    let b = put_natural(out, a + 1, column[e] as u64);
+    out[b] = 32;
+    let w = integers::element(weight, e);
+    let end = put_signed(out, b + 1, w);
+    out[end] = 10;
+    end + 1
+}
+
+// Writes the text of a graph, its edges in the order that is given, to `out`, 0 after its end. The result is its length.
+pub fn put_graph(
+    out: &mut [u8],
+    s: Shape,
+    row: &[u32],
+    column: &[u32],
+    weight: &[i32],
+    order: &[u32],
+) -> usize
+    requires { ⌜ length (now out) ≡ longestText ⌝ }
+    requires { ⌜ Ordered (graphOf s (now row) (now column) (now weight)) (now order) ⌝ }
+    ensures { λ r. ⌜ Written longestText (graphText (inOrder (graphOf s (now (row .entry)) (now (column .entry)) (now (weight .entry))) (now (order .entry)))) (now (out .exit)) r ⌝ }
+{
+    let mut at = writer::put_head(out, Field::Integer, s, s.edges);
+    let mut k = 0;
+    while k < order.len() {
+        let e = order[k] as usize;
+        at = put_edge(out, at, row, column, weight, e);
+        k += 1;
+    }
+    at
+}

@@ -1,0 +1,2 @@
+-- What the theorems of tidying say.
+pub mod Alike
