@@ -1,11 +1,14 @@
--- What the walk back from a labelled vertex may assume, and what the flip of one edge does.
-use Prim.Native.Nat.{ℕ, _≤_, _<_}
+-- What the walk back from a labelled vertex may assume, and what one step of it does.
+use Prim.Native.Nat.{ℕ, _-_, _≤_, _<_}
 use mathlib.Core.Path.{_≡_}
+use mathlib.Core.Bool.{cond}
 use mathlib.Core.List.{List, []}
+use lib.Dec.{eqb}
 use lib.ListN.{length, set}
 use Rattle.graph.specs.declared.Kind.the-variants.{Bipartite}
 use Rattle.graph.specs.declared.Shape.{Shape}
 use Rattle.graph.specs.Graph.{Graph, graphOf, verticesIn, firstEnd, secondEnd}
+use Rattle.graph.specs.Subgraph.{markAt}
 use Rattle.graph.specs.Passed.{Sound}
 use Rattle.tree.specs.Method.{Labels}
 use Rattle.tree.specs.Tree.{entries}
@@ -21,7 +24,10 @@ pub record Walkable (s : Shape) (row column label rank : List ℕ) (root v : ℕ
   pub inside : v < verticesIn s
   pub seen : 0 < entries rank v
 
--- Edge e, by which vertex v was reached, is flipped: y has its new mark, and w is its other end.
-pub record Flipped (g : Graph) (e v : ℕ) (x y : List ℕ) (w : ℕ) : Type 0 where
-  pub from-row : v < g .rows → (y ≡ set x e 0) × (w ≡ secondEnd g e)
-  pub from-column : g .rows ≤ v → (y ≡ set x e 1) × (w ≡ firstEnd g e)
+-- The marks x after edge e is flipped: it is chosen if it was not, and chosen no more if it was.
+abbrev pub flipped : List ℕ → ℕ → List ℕ
+flipped x e = set x e (1 - markAt x e)
+
+-- The end of edge e other than vertex v, which is one of its ends.
+abbrev pub otherEnd : Graph → ℕ → ℕ → ℕ
+otherEnd g e v = cond (eqb v (firstEnd g e)) (secondEnd g e) (firstEnd g e)

@@ -1,31 +1,40 @@
 // The walk back along an augmenting path.
 use graph::Shape;
-ghost use Prim.Native.Nat.{_<_};
+ghost use Prim.Native.Nat.{_≤_, _<_};
 ghost use mathlib.Core.Path.{_≡_};
 ghost use mathlib.Core.List.{[]};
 ghost use lib.ListN.{length};
 ghost use Rattle.graph.specs.Graph.{graphOf};
+ghost use Rattle.graph.specs.Subgraph.{markAt};
 ghost use Rattle.graph.specs.Passed.{Sound};
 ghost use Rattle.tree.specs.Method.{Augmented};
 ghost use Rattle.tree.specs.Tree.{entries};
-ghost use Rattle.augment.specs.Augment.{Walkable, Flipped};
+ghost use Rattle.augment.specs.Augment.{Walkable, flipped, otherEnd};
 
-// Flips edge e, by which vertex v was reached: from a row vertex it is chosen no more, from a column vertex it is chosen. The result is its other end.
-fn flip(chosen: &mut [u8], s: Shape, row: &[u32], column: &[u32], e: usize, v: usize) -> usize
-    requires { ⌜ Sound s (now row) (now column) ⌝ }
-    requires { ⌜ (e < s .edges) × (length (now chosen) ≡ s .edges) ⌝ }
-    ensures { λ w. ⌜ Flipped (graphOf s (now (row .entry)) (now (column .entry)) []) e v (now (chosen .entry)) (now (chosen .exit)) w ⌝ }
+// Flips an edge: it is chosen if it was not, and chosen no more if it was.
+fn flip(chosen: &mut [u8], edge: usize)
+    requires { ⌜ (edge < length (now chosen)) × (markAt (now chosen) edge ≤ 1) ⌝ }
+    ensures { λ _. ⌜ now (chosen .exit) ≡ flipped (now (chosen .entry)) edge ⌝ }
 {
-    let ends = tree::ends_at(s, row, column, e);
-    if v < s.rows as usize {
-        chosen[e] = 0;
-        return ends.second;
-    }
-    chosen[e] = 1;
-    ends.first
+    chosen[edge] = 1 - chosen[edge];
 }
 
-// Flips the edges from vertex v back to the root, one edge a call. What holds of the rank says that the walk ends.
+// The end of an edge other than this vertex, which is one of its ends.
+fn other_end(s: Shape, row: &[u32], column: &[u32], edge: usize, vertex: usize) -> usize
+    requires { ⌜ Sound s (now row) (now column) ⌝ }
+    requires { ⌜ edge < s .edges ⌝ }
+    ensures { λ w. ⌜ w ≡ otherEnd (graphOf s (now (row .entry)) (now (column .entry)) []) edge vertex ⌝ }
+{
+    let ends = tree::ends_at(s, row, column, edge);
+    if vertex == ends.first {
+        ends.second
+    } else {
+        ends.first
+    }
+}
+
+// Walks back from vertex v to the root: flips the edge by which a vertex was reached, its label, and goes on from the edge's other end. The rank falls with each
+// edge, so the walk ends.
 pub fn augment(
     chosen: &mut [u8],
     s: Shape,
@@ -39,10 +48,11 @@ pub fn augment(
     requires { ⌜ Walkable s (now row) (now column) (now label) (now rank) root v (now chosen) ⌝ }
     ensures { λ _. ⌜ Augmented (graphOf s (now (row .entry)) (now (column .entry)) []) (entries (now (label .entry))) (entries (now (rank .entry))) root v (now (chosen .entry)) (now (chosen .exit)) ⌝ }
 {
-    if v == root {
-        return;
+    let mut vertex = v;
+    while vertex != root {
+        let edge = label[vertex] as usize;
+        flip(chosen, edge);
+        let next = other_end(s, row, column, edge, vertex);
+        vertex = next;
     }
-    let e = label[v] as usize;
-    let next = flip(chosen, s, row, column, e, v);
-    augment(chosen, s, row, column, label, rank, root, next);
 }

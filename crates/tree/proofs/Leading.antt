@@ -8,7 +8,7 @@ use native.Mathlib.Omega.{arith}
 use native.Mathlib.Nat.{eq-zero-or-pos}
 use native.Mathlib.Decide.{decLt}
 use lib.Dec.{eqb}
-use borrow.Author.Tests.{ne-eqb}
+use borrow.Author.Tests.{eq-eqb, ne-eqb}
 use lib.IntN.{ℤ}
 use lib.ListN.{length, set}
 use lib.Seq.{getD-set-same, getD-set-other}
@@ -50,12 +50,12 @@ module _ (g : Graph) (x : List ℕ) (e : ℕ) where
   pub arc : markAt x e ≤ 1 → Out g x e ⊎ Back g x e
   arc m = ⊎-elim (λ z. inl (out z)) (λ s. inr (back (omega arith))) (eq-zero-or-pos (markAt x e))
 
--- The test of a mark, by its value.
-pub mark-none : {k : ℕ} (a b : ℕ) → k ≡ 0 → cond (eqb k 0) a b ≡ a
-mark-none a b z = ap (λ n. cond (eqb n 0) a b) z
+-- The test whether two numbers are the same, where they are and where they are not.
+pub if-same : {j k : ℕ} (a b : ℕ) → j ≡ k → cond (eqb j k) a b ≡ a
+if-same a b q = ap (λ (t : Bool). cond t a b) (eq-eqb _ _ q)
 
-pub mark-some : {k : ℕ} (a b : ℕ) → (k ≡ 0 → ⊥) → cond (eqb k 0) a b ≡ b
-mark-some a b n = ap (λ (t : Bool). cond t a b) (ne-eqb _ _ n)
+pub if-other : {j k : ℕ} (a b : ℕ) → j ≢ k → cond (eqb j k) a b ≡ b
+if-other a b n = ap (λ (t : Bool). cond t a b) (ne-eqb _ _ n)
 
 -- A difference without its sign.
 pub apart-over : (a b : ℕ) → b ≤ a → apart a b + b ≡ a
@@ -80,8 +80,8 @@ module _ {g : Graph} {bound : List ℤ} {x : List ℕ} {price : ℕ → ℕ} (go
 -- An edge leads to a vertex, whatever its mark.
 pub head-in : {g : Graph} → Solvable g → (x : List ℕ) (e : ℕ) → e < g .edges → head g x e < vertices g
 head-in {g} net x e l = ⊎-elim
-    (λ z. omega (arith, mark-none (secondEnd g e) (firstEnd g e) z, second-to net e l))
-    (λ s. omega (arith, mark-some {k = markAt x e} (secondEnd g e) (firstEnd g e) (λ z. omega (arith, z)), first-to net e l, rows-in net))
+    (λ z. omega (arith, if-same (secondEnd g e) (firstEnd g e) z, second-to net e l))
+    (λ s. omega (arith, if-other {j = markAt x e} {k = 0} (secondEnd g e) (firstEnd g e) (λ z. omega (arith, z)), first-to net e l, rows-in net))
     (eq-zero-or-pos (markAt x e))
 
 -- The function f′ is f, but for a at v.

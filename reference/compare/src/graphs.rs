@@ -72,6 +72,36 @@ impl Lent {
         Lent::right(random, kind, side, side, edges)
     }
 
+    /// A chain, for bounds of 1: each row but the last has edges to columns i and i + 1, the first worth a little more, and the last row has one to
+    /// column 1. The last column may be left out; the row before the last then has one edge, worth next to nothing. One subgraph alone is optimal:
+    /// the last row's edge and the second edge of every other row that has two. A solver that serves the rows in their order has each row's first edge chosen
+    /// before the last row, and then has to flip every edge. Columns are numbered and edges stand in any order.
+    pub fn chain(random: &mut Random, rows: u32, row_end: bool) -> Lent {
+        let columns = if row_end { rows - 1 } else { rows };
+        let scale = 1 + random.below(997) as i32;
+        let mut edges = vec![(rows, 1, 1_000)];
+        for r in 1..rows {
+            let more = random.between(1, 3);
+            if r < columns {
+                edges.extend([(r, r, 1_000 + more), (r, r + 1, 1_000)]);
+            } else {
+                edges.push((r, r, more));
+            }
+        }
+        let mut number: Vec<u32> = (1..=columns).collect();
+        shuffle(random, &mut number);
+        shuffle(random, &mut edges);
+        Lent {
+            kind: Kind::Bipartite,
+            rows,
+            columns,
+            edges: edges.len() as u32,
+            row: edges.iter().map(|e| e.0).collect(),
+            column: edges.iter().map(|e| number[e.1 as usize - 1]).collect(),
+            weight: edges.iter().map(|e| scale * e.2).collect(),
+        }
+    }
+
     /// A right graph of either kind: small, or now and then full.
     pub fn any(random: &mut Random) -> Lent {
         let kind = random.pick(&[Kind::Bipartite, Kind::General]);

@@ -154,7 +154,18 @@ fn large(random: &mut Random, tally: &mut Tally) {
     compare_one(random, &lent, &bound, tally, false);
 }
 
-/// Compares the solver on `count` small graphs and 200 large ones.
+/// Chains of every length, so that a walk back has up to 127 edges, from a column or from a row.
+fn chains(random: &mut Random, tally: &mut Tally) {
+    for rows in 2..=64 {
+        for row_end in [false, true] {
+            let lent = Lent::chain(random, rows, row_end);
+            let bound = vec![1; lent.vertices()];
+            compare_one(random, &lent, &bound, tally, false);
+        }
+    }
+}
+
+/// Compares the solver on `count` small graphs, 200 large ones and 504 chains.
 pub fn compare(seed: u64, count: u64) -> Vec<bool> {
     let mut random = Random::new(seed);
     let mut smalls = Tally::new("solver, small graphs");
@@ -165,10 +176,15 @@ pub fn compare(seed: u64, count: u64) -> Vec<bool> {
     for _ in 0..200 {
         large(&mut random, &mut larges);
     }
+    let mut chained = Tally::new("solver, chains");
+    for _ in 0..4 {
+        chains(&mut random, &mut chained);
+    }
     let mut demanded = vec![Seen::Result, Seen::Other(UNTESTED.into())];
     demanded.extend([4, 6, 7, 8, 9, 10, 16, 18].map(Seen::Refusal));
     vec![
         smalls.report_all(count, &demanded),
         larges.report(200, &[18]),
+        chained.report(504, &[18]),
     ]
 }

@@ -27,14 +27,29 @@ fn the_worked_example_is_solved_and_marked() {
 }
 
 #[test]
-fn the_season_has_one_best_plan() {
-    let season = example("examples/season");
-    let plan = season.lend().subgraph.unwrap();
-    assert_eq!(solve_output(&season.lend()), plan);
-    assert_eq!(
-        mark("examples/season"),
-        "merit 2960 total 2960 fish 0 groups 0 pairs 0 cover 0 gap 0\n"
-    );
+fn the_season_and_the_walk_have_one_best_plan() {
+    for (name, merit) in [("examples/season", 2_960), ("examples/walk", 32)] {
+        let folder = example(name);
+        let plan = folder.lend().subgraph.unwrap();
+        assert_eq!(solve_output(&folder.lend()), plan, "{name}");
+        let line = format!("merit {merit} total {merit} fish 0 groups 0 pairs 0 cover 0 gap 0\n");
+        assert_eq!(mark(name), line, "{name}");
+    }
+}
+
+/// The lines of the manual that show the walk back stand in the code as they are.
+#[test]
+fn the_manual_shows_the_walk_of_the_code() {
+    let text = |name: &str| {
+        let root = concat!(env!("CARGO_MANIFEST_DIR"), "/../..");
+        std::fs::read_to_string(format!("{root}/{name}")).unwrap()
+    };
+    let manual = text("docs/MANUAL.md");
+    let from = manual.find("    let mut vertex = v;\n").unwrap();
+    let shown = &manual[from..];
+    let shown = &shown[..shown.find("\n\n").unwrap()];
+    assert_eq!(shown.lines().count(), 7);
+    assert!(text("crates/augment/src/lib.rt").contains(&format!("{{\n{shown}\n}}\n")));
 }
 
 #[test]
