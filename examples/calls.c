@@ -95,7 +95,7 @@ static void season(void) {
 
 /* The prices and the group of tank/README.md. */
 static void tank(void) {
-    const int32_t vertex_price[5] = {0, 0, 2, 4, 0}, edge_price[5] = {0}, set_price[1] = {10};
+    const int32_t vertex_price[5] = {0, 0, 4, 8, 0}, edge_price[5] = {0}, set_price[1] = {20};
     const uint64_t set_vertices[JANGORIPU_VERTEX_WORDS] = {7, 0}, set_edges[JANGORIPU_EDGE_WORDS] = {0};
     const jangoripu_prices p = {vertex_price, edge_price, 1, set_price, set_vertices, set_edges};
     jangoripu_sheet s = sheet_with_limits("tank/sheet.mtx", "tank/limits.mtx");

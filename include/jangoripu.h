@@ -12,6 +12,10 @@
  * offsets and then 2m edge numbers, grouped by vertex, rising within a vertex. The first offset is 0 and the last 2m; vertex v has the
  * edge numbers at [n + 1 + index[v - 1]] up to, not including, [n + 1 + index[v]]. So each edge stands there twice, once for each end.
  *
+ * Weights are in points; prices of vertices, edges and odd sets, their total, the slacks and the gap are in half points. An edge is covered
+ * if its prices reach twice its weight, and the gap is the total minus twice the plan's weight. So a plan's gap is at least twice what it
+ * lacks; a gap of 0 proves the plan best, and so does a gap of 1. The solver's prices are even.
+ *
  * A number in a text has one way to be written: 1 to 9 digits with no leading zero, unless it is the single digit 0, and - before a
  * weight, bound or price below 0. So 07, +7 and -0 are malformed: JANGORIPU_SIZE_LINE on a size line, JANGORIPU_LATER_LINE elsewhere. The
  * program rewrite puts texts that were stored with such numbers right.
@@ -73,7 +77,7 @@ enum jangoripu_refusal {
 #define JANGORIPU_LONGEST_INDEX 2177     /* numbers of an index: 128 + 1 + 2 * 1,024 */
 #define JANGORIPU_GREATEST_WEIGHT 1000000 /* a weight is from -1,000,000 to 1,000,000 */
 #define JANGORIPU_GREATEST_BOUND 64      /* a bound is from 0 to 64 */
-#define JANGORIPU_GREATEST_PRICE 2000000 /* a price is from 0 to 2,000,000, the solver's to 1,000,000 */
+#define JANGORIPU_GREATEST_PRICE 4000000 /* a price is from 0 to 4,000,000 half points, the solver's to 2,000,000 */
 #define JANGORIPU_MOST_SETS 16           /* odd sets (groups) */
 #define JANGORIPU_VERTEX_WORDS 2         /* 64-bit words of an odd set that mark vertices */
 #define JANGORIPU_EDGE_WORDS 16          /* 64-bit words of an odd set that mark edges */
@@ -140,9 +144,9 @@ uint32_t jangoripu_test_index(bool general, uint32_t rows, uint32_t columns, uin
                               const uint32_t *column, size_t column_len, const int32_t *weight, size_t weight_len,
                               const uint32_t *index, size_t index_len, uint64_t *place);
 
-/* Solves a two-sided sheet: a plan of largest merit, and prices that prove it. bound and vertex_price have exactly a number for each
- * vertex; row, column, weight, chosen and edge_price exactly one for each edge; index is the sheet's, and is tested; workspace has
- * exactly 4,096 numbers, all 0 afterwards.
+/* Solves a two-sided sheet: a plan of largest merit, and prices that prove it, each an even number of half points. bound and
+ * vertex_price have exactly a number for each vertex; row, column, weight, chosen and edge_price exactly one for each edge; index is the
+ * sheet's, and is tested; workspace has exactly 4,096 numbers, all 0 afterwards.
  * Refusals: 9, 4, 6, 7, 8, 10, 16, 18. No pointer is null. */
 uint32_t jangoripu_solve(bool general, uint32_t rows, uint32_t columns, uint32_t edges, const uint32_t *row, size_t row_len,
                          const uint32_t *column, size_t column_len, const int32_t *weight, size_t weight_len, const int32_t *bound,
@@ -155,7 +159,7 @@ uint32_t jangoripu_solve(bool general, uint32_t rows, uint32_t columns, uint32_t
  * 16 words for each, set after set. Vertex v is bit (v - 1) % 64 of word (v - 1) / 64 of its set, bit 0 the lowest, and edge e likewise;
  * bits above the last vertex or edge are 0. An odd set marks at least one vertex; a marked edge has exactly one end marked; the bounds of
  * its vertices plus the number of its marked edges is odd, 2q + 1, and it covers its marked edges and those with both ends marked.
- * numbers: weight, total, slack of vertices, of odd sets, of edges, of cover, and gap.
+ * numbers: weight in points, and in half points total, slack of vertices, of odd sets, of edges, of cover, and gap.
  * Refusals: 9, 4, 6, 7, 8, 10, 11, 12, 13, 14, 15. No pointer is null. */
 uint32_t jangoripu_measure(bool general, uint32_t rows, uint32_t columns, uint32_t edges, const uint32_t *row, size_t row_len,
                            const uint32_t *column, size_t column_len, const int32_t *weight, size_t weight_len, const int32_t *bound,
@@ -179,7 +183,7 @@ typedef struct jangoripu_sheet {
     const uint32_t *index;        /* jangoripu_index_length numbers */
 } jangoripu_sheet;
 
-/* A price sheet: a price for each vertex and each edge, and the odd sets, of which there may be none. */
+/* A price sheet, in half points: a price for each vertex and each edge, and the odd sets, of which there may be none. */
 typedef struct jangoripu_prices {
     const int32_t *vertex, *edge;
     uint32_t sets;
@@ -188,7 +192,7 @@ typedef struct jangoripu_prices {
     const uint64_t *set_edges;    /* 16 words a set */
 } jangoripu_prices;
 
-/* What a measuring tells, by the names that `mark` uses. */
+/* What a measuring tells, by the names that `mark` uses: the merit in points, the rest in half points. */
 typedef struct jangoripu_measures {
     int64_t merit, total, fish, groups, pairs, cover, gap;
 } jangoripu_measures;
@@ -311,8 +315,8 @@ static inline uint32_t jangoripu_index_test(const jangoripu_sheet *s, uint64_t *
     return jangoripu_told(refusal, at, place);
 }
 
-/* Solves the sheet: a plan of largest merit, and prices of its vertices and edges that prove it; workspace has 4,096 numbers. Where s
- * points at no index, one is built for this call on the stack, in 8,708 bytes. */
+/* Solves the sheet: a plan of largest merit, and prices of its vertices and edges, in half points, that prove it; workspace has 4,096
+ * numbers. Where s points at no index, one is built for this call on the stack, in 8,708 bytes. */
 static inline uint32_t jangoripu_sheet_solve(const jangoripu_sheet *s, uint8_t *chosen, int32_t *vertex_price, int32_t *edge_price,
                                              int32_t *workspace, uint64_t *place) {
     uint32_t own[JANGORIPU_LONGEST_INDEX], refusal;

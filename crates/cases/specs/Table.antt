@@ -1,4 +1,5 @@
--- The table for the proof: the twelve marked cases of document 01, each with what must come out.
+-- The table for the proof: the twelve marked cases of document 01, each with what must come out. Prices, totals, slacks and gaps are in half points, twice
+-- what document 01 says (request U5).
 use Prim.Native.Nat.{ℕ}
 use Prim.Native.String.{String}
 use mathlib.Core.Path.{_≡_}
@@ -152,8 +153,8 @@ table =
       graph = square;
       bound = ones 4;
       chosen = 1 ∷ 0 ∷ 0 ∷ 1 ∷ [];
-      prices = withoutSets (pos 2 ∷ pos 1 ∷ pos 3 ∷ pos 2 ∷ []) (zeros 4);
-      claims = line "merit 6 total 8 fish 0 groups 0 pairs 0 cover 2 gap 2" ∷ gap (pos 2) ∷ [];
+      prices = withoutSets (pos 4 ∷ pos 2 ∷ pos 6 ∷ pos 4 ∷ []) (zeros 4);
+      claims = line "merit 6 total 16 fish 0 groups 0 pairs 0 cover 4 gap 4" ∷ gap (pos 4) ∷ [];
     }
     ∷ record {
       number = 4;
@@ -168,7 +169,7 @@ table =
       graph = single (pos 7);
       bound = pos 0 ∷ pos 5 ∷ [];
       chosen = 0 ∷ [];
-      prices = withoutSets (pos 7 ∷ pos 0 ∷ []) (zeros 1);
+      prices = withoutSets (pos 14 ∷ pos 0 ∷ []) (zeros 1);
       claims = largest (pos 0) ∷ gap (pos 0) ∷ [];
     }
     ∷ record {
@@ -176,7 +177,7 @@ table =
       graph = triangle;
       bound = ones 3;
       chosen = 1 ∷ 0 ∷ 0 ∷ [];
-      prices = withSet (zeros 3) (zeros 3) (pos 1) 0b111 0;
+      prices = withSet (zeros 3) (zeros 3) (pos 2) 0b111 0;
       claims = gap (pos 0) ∷ [];
     }
     ∷ record {
@@ -184,15 +185,15 @@ table =
       graph = triangle;
       bound = ones 3;
       chosen = 1 ∷ 0 ∷ 0 ∷ [];
-      prices = withoutSets (pos 1 ∷ pos 1 ∷ pos 0 ∷ []) (zeros 3);
-      claims = gap (pos 1) ∷ optimal ∷ [];
+      prices = withoutSets (pos 2 ∷ pos 2 ∷ pos 0 ∷ []) (zeros 3);
+      claims = gap (pos 2) ∷ optimal ∷ [];
     }
     ∷ record {
       number = 8;
       graph = single (pos 1000000);
       bound = ones 2;
       chosen = 0 ∷ [];
-      prices = withoutSets (pos 1000000 ∷ pos 0 ∷ []) (zeros 1);
+      prices = withoutSets (pos 2000000 ∷ pos 0 ∷ []) (zeros 1);
       claims = taken ∷ solved ∷ sheetTaken (sheet "1 1 1000000") ∷ [];
     }
     ∷ record {
@@ -200,7 +201,7 @@ table =
       graph = single (pos 1000001);
       bound = ones 2;
       chosen = 0 ∷ [];
-      prices = withoutSets (pos 1000001 ∷ pos 0 ∷ []) (zeros 1);
+      prices = withoutSets (pos 2000002 ∷ pos 0 ∷ []) (zeros 1);
       claims = refused 7 1 ∷ unsolved 7 1 ∷ sheetRefused (sheet "1 1 1000001") 7 3 ∷ [];
     }
     ∷ record {
@@ -232,7 +233,7 @@ table =
       graph = bipartite 1 3 (1 ∷ 1 ∷ 1 ∷ []) (1 ∷ 2 ∷ 3 ∷ []) (ones 3);
       bound = pos 2 ∷ ones 3;
       chosen = 1 ∷ 1 ∷ 0 ∷ [];
-      prices = withSet (zeros 4) (zeros 3) (pos 1) 0b1 0b111;
+      prices = withSet (zeros 4) (zeros 3) (pos 2) 0b1 0b111;
       claims = capacityOf 0 2 ∷ gap (pos 0) ∷ [];
     }
     ∷ record {
@@ -240,7 +241,7 @@ table =
       graph = bipartite 1 2 (1 ∷ 1 ∷ []) (1 ∷ 2 ∷ []) (pos 5 ∷ pos 3 ∷ []);
       bound = pos 2 ∷ ones 2;
       chosen = 1 ∷ 1 ∷ [];
-      prices = withoutSets (pos 3 ∷ zeros 2) (pos 2 ∷ pos 0 ∷ []);
+      prices = withoutSets (pos 6 ∷ zeros 2) (pos 4 ∷ pos 0 ∷ []);
       claims = gap (pos 0) ∷ [];
     }
     ∷ []

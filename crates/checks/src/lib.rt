@@ -130,12 +130,6 @@ pub fn bound_in_range(x: i32) -> bool
     integers::in_range(x, 0, GREATEST_BOUND)
 }
 
-pub fn price_in_range(x: i32) -> bool
-    ensures { λ r. ⌜ r ≡ priceInRange x ⌝ }
-{
-    integers::in_range(x, 0, GREATEST_PRICE)
-}
-
 // The lowest number that is not from low to high.
 fn lowest_outside(values: &[i32], low: i32, high: i32) -> Lowest
     ensures { λ r. ⌜ lowestSays r ≡ lowest (length (now (values .entry))) (λ k. between low high (getD (now (values .entry)) k (pos 0))) ⌝ }

@@ -1,4 +1,4 @@
--- Cover of an edge, the prices' total, the gap, and its four slacks (leftovers).
+-- Cover of an edge, the prices' total, the gap, and its four slacks (leftovers). Prices are counted in half points (request U5), and so are these.
 use Prim.Native.Nat.{ℕ, _*_, _-_}
 use mathlib.Core.Bool.{Bool}
 use mathlib.Core.List.{List}
@@ -10,15 +10,23 @@ use Rattle.graph.specs.Subgraph.{markAt, degree, weightOf}
 use Rattle.dual.specs.Prices.{Prices, vertexPrice, edgePrice, setPrice, one}
 use Rattle.dual.specs.Sets.{covers, capacity}
 
+-- A number of points in half points: twice that.
+abbrev pub halfPoints : ℤ → ℤ
+halfPoints z = pos 2 *ℤ z
+
+-- What edge e is worth in half points.
+abbrev pub worthAt : Graph → ℕ → ℤ
+worthAt g e = halfPoints (weightAt g e)
+
 -- The prices that cover edge e, added up: of both its ends, its own, and of all odd sets that cover it.
 abbrev pub coverOf : Graph → Prices → ℕ → ℤ
 coverOf g P e =
     vertexPrice P (firstEnd g e) +ℤ vertexPrice P (secondEnd g e) +ℤ edgePrice P e
     +ℤ sumℤ (P .sets) (λ s. pos (one (covers g P s e)) *ℤ setPrice P s)
 
--- A price sheet covers an edge if they add up to at least its weight.
+-- A price sheet covers an edge if they add up to at least what it is worth.
 abbrev pub covered : Graph → Prices → ℕ → Bool
-covered g P e = leZ (weightAt g e) (coverOf g P e)
+covered g P e = leZ (worthAt g e) (coverOf g P e)
 
 -- Total: bound times vertex price, plus capacity times set price, plus all edge prices.
 abbrev pub totalOf : Graph → List ℤ → Prices → ℤ
@@ -27,9 +35,9 @@ totalOf g bound P =
     +ℤ sumℤ (P .sets) (λ s. pos (capacity g bound P s) *ℤ setPrice P s)
     +ℤ sumℤ (g .edges) (edgePrice P)
 
--- Gap: total minus the weight of the subgraph.
+-- Gap: total minus the weight of the subgraph in half points.
 abbrev pub gapOf : Graph → List ℤ → List ℕ → Prices → ℤ
-gapOf g bound x P = totalOf g bound P -ℤ weightOf g x
+gapOf g bound x P = totalOf g bound P -ℤ halfPoints (weightOf g x)
 
 -- Slack of vertices: price times residual bound (unused limit).
 abbrev pub vertexSlack : Graph → List ℤ → List ℕ → Prices → ℤ
@@ -47,6 +55,6 @@ setSlack g bound x P = sumℤ (P .sets) (λ s. setPrice P s *ℤ (pos (capacity 
 abbrev pub edgeSlack : Graph → List ℕ → Prices → ℤ
 edgeSlack g x P = sumℤ (g .edges) (λ e. pos (1 - markAt x e) *ℤ edgePrice P e)
 
--- Slack of cover: over chosen edges, what the covering prices exceed the weight by.
+-- Slack of cover: over chosen edges, what the covering prices exceed the edge's worth by.
 abbrev pub coverSlack : Graph → List ℕ → Prices → ℤ
-coverSlack g x P = sumℤ (g .edges) (λ e. pos (markAt x e) *ℤ (coverOf g P e -ℤ weightAt g e))
+coverSlack g x P = sumℤ (g .edges) (λ e. pos (markAt x e) *ℤ (coverOf g P e -ℤ worthAt g e))

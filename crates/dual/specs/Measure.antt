@@ -18,7 +18,7 @@ use Rattle.dual.specs.Prices.{Prices, allPrices}
 use Rattle.dual.specs.Sets.{keepsRules}
 use Rattle.dual.specs.Gap.{covered, totalOf, gapOf, vertexSlack, setSlack, edgeSlack, coverSlack}
 
--- The seven numbers of a subgraph measured against a price sheet.
+-- The seven numbers of a subgraph measured against a price sheet: its weight in points, and the others in half points.
 abbrev pub measures : Graph → List ℤ → List ℕ → Prices → Measures
 measures g bound x P = record {
   weight = weightOf g x;

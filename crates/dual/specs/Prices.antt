@@ -1,4 +1,4 @@
--- Prices of vertices (fish), edges (pairs) and odd sets (groups), and the marks of odd sets.
+-- Prices of vertices (fish), edges (pairs) and odd sets (groups), in half points, and the marks of odd sets.
 use Prim.Native.Nat.{ℕ, _+_, _*_, _/_, _%_, _^_}
 use mathlib.Core.Bool.{Bool, cond}
 use mathlib.Core.List.{List, _++_}

@@ -11,14 +11,14 @@ use Rattle.graph.specs.Limits.{workspaceNumbers, greatestSolverPrice}
 use Rattle.graph.specs.declared.Fault.{Fault}
 use Rattle.graph.specs.declared.Fault.the-variants.{LentLength}
 use Rattle.graph.specs.Refusal.{Outcome, yields, refuses, Told, tells, refusedWith, numberOf, Test, once, passing}
-use Rattle.graph.specs.Graph.{Graph, vertices, weightAt}
+use Rattle.graph.specs.Graph.{Graph, vertices}
 use Rattle.graph.specs.Subgraph.{Optimal}
 use Rattle.graph.specs.Tests.{graphLengths, graphTests, boundTest, kindTest}
 use Rattle.graph.specs.Index.{indexNumbers, indexTest}
 use Rattle.dual.specs.declared.SolveAnswer.{SolveAnswer}
 use Rattle.dual.specs.declared.SolveAnswer.the-variants as SolveAnswer
 use Rattle.dual.specs.Prices.{Prices, vertexPrice, edgePrice}
-use Rattle.dual.specs.Gap.{coverOf, gapOf}
+use Rattle.dual.specs.Gap.{halfPoints, worthAt, coverOf, gapOf}
 
 -- The lengths of the outputs that are lent to the solver: marks, vertex prices, edge prices and the workspace (scratch).
 pub record Lent : Type 0 where
@@ -54,18 +54,20 @@ solveSays (SolveAnswer.Refused r) = refusedWith (numberOf (r .fault)) (r .place)
 abbrev pub withoutSets : List ℤ → List ℤ → Prices
 withoutSets vertex edge = record { vertex = vertex; edge = edge; sets = 0; set = []; setVertices = []; setEdges = [] }
 
--- A price of the solver's is from 0 to 1,000,000.
+-- A price of the solver's is from 0 to 2,000,000 half points and even: a number of points in half points.
 pub record SolverPrice (z : ℤ) : Type 0 where
   pub least : pos 0 ≤ℤ z
   pub greatest : z ≤ℤ pos greatestSolverPrice
+  pub points : ℤ
+  pub even : z ≡ halfPoints points
 
--- What holds of the solver's answer, whose subgraph and prices are its own choice: the subgraph is optimal, the prices are in range and cover
+-- What holds of the solver's answer, whose subgraph and prices are its own choice: the subgraph is optimal, the prices are even, in range and cover
 -- every edge, and the gap is 0.
 pub record Solved (g : Graph) (bound : List ℤ) (x : List ℕ) (vertex edge : List ℤ) : Type 0 where
   pub optimal : Optimal g bound x
   pub vertexRange : (v : ℕ) → v < vertices g → SolverPrice (vertexPrice (withoutSets vertex edge) v)
   pub edgeRange : (e : ℕ) → e < g .edges → SolverPrice (edgePrice (withoutSets vertex edge) e)
-  pub covering : (e : ℕ) → e < g .edges → weightAt g e ≤ℤ coverOf g (withoutSets vertex edge) e
+  pub covering : (e : ℕ) → e < g .edges → worthAt g e ≤ℤ coverOf g (withoutSets vertex edge) e
   pub noGap : gapOf g bound x (withoutSets vertex edge) ≡ pos 0
 
 -- Every mark and price is 0.

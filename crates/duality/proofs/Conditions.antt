@@ -5,10 +5,10 @@ use mathlib.Core.Bool.{true}
 use mathlib.Core.List.{List}
 use lib.IntN.{ℤ, pos}
 use lib.Signed.{_≤ℤ_}
-use Rattle.graph.specs.Graph.{Graph, vertices, firstEnd, secondEnd, weightAt}
+use Rattle.graph.specs.Graph.{Graph, vertices, firstEnd, secondEnd}
 use Rattle.dual.specs.Prices.{Prices, vertexPrice, edgePrice, setPrice}
 use Rattle.dual.specs.Sets.{keepsRules}
-use Rattle.dual.specs.Gap.{coverOf}
+use Rattle.dual.specs.Gap.{worthAt, coverOf}
 
 -- The ends of every edge are vertices of the graph.
 pub record Incident (g : Graph) : Type 0 where
@@ -21,4 +21,4 @@ pub record DualFeasible (g : Graph) (bound : List ℤ) (P : Prices) : Type 0 whe
   pub edgePrices : (e : ℕ) → e < g .edges → pos 0 ≤ℤ edgePrice P e
   pub setPrices : (s : ℕ) → s < P .sets → pos 0 ≤ℤ setPrice P s
   pub rules : (s : ℕ) → s < P .sets → keepsRules g bound P s ≡ true
-  pub covering : (e : ℕ) → e < g .edges → weightAt g e ≤ℤ coverOf g P e
+  pub covering : (e : ℕ) → e < g .edges → worthAt g e ≤ℤ coverOf g P e

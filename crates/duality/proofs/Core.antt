@@ -17,7 +17,7 @@ use Rattle.dual.specs.Prices.{one}
 
 -- ---- products
 
-times-diff : (c x y : ℤ) → c *ℤ (x -ℤ y) ≡ c *ℤ x -ℤ c *ℤ y
+pub times-diff : (c x y : ℤ) → c *ℤ (x -ℤ y) ≡ c *ℤ x -ℤ c *ℤ y
 times-diff c x y =
     let e : c *ℤ x ≡ c *ℤ (x -ℤ y) +ℤ c *ℤ y = ap (λ z. c *ℤ z) (sym (-ℤ-+ℤ-cancel x y)) ∙ times-add c (x -ℤ y) y in
     omega (order, ap up e, ap dn e, up-add (c *ℤ (x -ℤ y)) (c *ℤ y), up-diff (c *ℤ x) (c *ℤ y))

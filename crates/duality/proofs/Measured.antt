@@ -6,13 +6,13 @@ use native.Mathlib.Omega.{arith}
 use lib.IntN.{ℤ, pos, _-ℤ_}
 use lib.ListN.{length}
 use Rattle.integers.specs.Integer.{up, dn}
-use Rattle.integers.proofs.Order.{up-diff, ≤ℤ-antisym, order}
+use Rattle.integers.proofs.Order.{up-diff, up-times, ≤ℤ-antisym, order}
 use Rattle.graph.specs.Refusal.{yields}
 use Rattle.graph.specs.Graph.{Graph, vertices}
 use Rattle.graph.specs.Subgraph.{Feasible, Optimal, weightOf, lacks}
 use Rattle.dual.specs.declared.Measures.{Measures}
 use Rattle.dual.specs.Prices.{Prices}
-use Rattle.dual.specs.Gap.{totalOf, gapOf}
+use Rattle.dual.specs.Gap.{halfPoints, totalOf, gapOf}
 use Rattle.dual.specs.Measure.{measure, measures}
 use Rattle.dual.specs.Solve.{Lent, solve, Solved, SolverPrice, withoutSets}
 use Rattle.duality.proofs.Conditions.{Incident, DualFeasible}
@@ -21,16 +21,27 @@ use Rattle.duality.proofs.Passed.{passed-incident, PriceRange, Priced, 
 use Rattle.duality.proofs.Duality.{slacks-add, within-capacity, vertex-slack-nonneg, set-slack-nonneg, edge-slack-nonneg, cover-slack-nonneg}
 use Rattle.duality.proofs.Duality.{gap-bound, no-gap}
 
--- ---- differences
+-- ---- differences, in half points
 
-same-total : (t a b : ℤ) → t -ℤ a ≡ pos 0 → t -ℤ b ≡ a -ℤ b
-same-total t a b e = omega (order, ap up e, ap dn e, up-diff t a, up-diff t b, up-diff a b)
+same-total : (t a b : ℤ) → t -ℤ halfPoints a ≡ pos 0 → t -ℤ halfPoints b ≡ halfPoints (a -ℤ b)
+same-total t a b e =
+    omega (
+      order,
+      ap up e,
+      ap dn e,
+      up-diff t (halfPoints a),
+      up-diff t (halfPoints b),
+      up-diff a b,
+      up-times 2 a,
+      up-times 2 b,
+      up-times 2 (a -ℤ b),
+    )
 
-diff-zero : (a b : ℤ) → a -ℤ b ≡ pos 0 → a ≡ b
-diff-zero a b e = omega (order, ap up e, ap dn e, up-diff a b)
+diff-zero : (a b : ℤ) → halfPoints (a -ℤ b) ≡ pos 0 → a ≡ b
+diff-zero a b e = omega (order, ap up e, ap dn e, up-diff a b, up-times 2 (a -ℤ b))
 
-zero-diff : (a b : ℤ) → a ≡ b → a -ℤ b ≡ pos 0
-zero-diff a b e = omega (order, ap up e, ap dn e, up-diff a b)
+zero-diff : (a b : ℤ) → a ≡ b → halfPoints (a -ℤ b) ≡ pos 0
+zero-diff a b e = omega (order, ap up e, ap dn e, up-diff a b, up-times 2 (a -ℤ b))
 
 -- ---- the numbers
 
@@ -85,7 +96,7 @@ certified {g} {bound} index lent {x} {vertex} {edge} e vertexLong edgeLong S y F
     let a = solve-passed g bound index lent e in
     let taken = measure-takes (a .passed) (a .bounded) F (solved-priced vertexLong edgeLong S) in
     let exact : gapOf g bound y (withoutSets vertex edge)
-    ≡ lacks g x y = same-total (totalOf g bound (withoutSets vertex edge)) (weightOf g x) (weightOf g y) (S .noGap) in
+    ≡ halfPoints (lacks g x y) = same-total (totalOf g bound (withoutSets vertex edge)) (weightOf g x) (weightOf g y) (S .noGap) in
     record {
       numbers = measures g bound y (withoutSets vertex edge);
       measured = taken;

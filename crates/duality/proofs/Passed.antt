@@ -14,10 +14,9 @@ use borrow.Author.Tests.{eqb-true, leb-true, le-leb, lt-ltb, eq-eqb}
 use Rattle.integers.proofs.Order.{leZ-true, le-leZ, between-true, le-between}
 use Rattle.graph.specs.declared.Kind.{Kind}
 use Rattle.graph.specs.declared.Kind.the-variants.{Bipartite, General}
-use Rattle.graph.specs.declared.Fault.the-variants.{LentLength}
 use Rattle.graph.specs.Limits.{greatestPrice, vertexWords, edgeWords, workspaceNumbers}
-use Rattle.graph.specs.Refusal.{yields, once}
-use Rattle.graph.specs.Graph.{Graph, vertices, columnVertex, columnAt, weightAt, firstEnd, secondEnd, boundAt, upTo, sizesInRange, priceInRange}
+use Rattle.graph.specs.Refusal.{yields}
+use Rattle.graph.specs.Graph.{Graph, vertices, columnVertex, columnAt, firstEnd, secondEnd, boundAt, upTo, sizesInRange, priceInRange}
 use Rattle.graph.specs.Index.{indexNumbers, indexTest}
 use Rattle.graph.specs.Subgraph.{Feasible, markAt, degree}
 use Rattle.graph.specs.Tests.{graphLengths, graphTests, boundTest, kindTest, isBipartite, markTest, degreeTest}
@@ -28,7 +27,7 @@ use Rattle.graph.proofs.Passed.{graph-passed, passed-lengths, passed-tests, bou
 use Rattle.dual.specs.declared.Measures.{Measures}
 use Rattle.dual.specs.Prices.{Prices, vertexPrice, edgePrice, setPrice, allPrices, marked}
 use Rattle.dual.specs.Sets.{nothingAbove, hasVertex, endsInside, oneEndInside, isOdd, keepsRules}
-use Rattle.dual.specs.Gap.{coverOf}
+use Rattle.dual.specs.Gap.{worthAt, coverOf}
 use Rattle.dual.specs.Measure.{measure, measures, measureLengths, measureTests, priceTest, setTest, coverTest}
 use Rattle.dual.specs.Solve.{Lent, solve, solverTests}
 use Rattle.duality.proofs.Conditions.{Incident, DualFeasible}
@@ -102,7 +101,7 @@ pub record Priced (g : Graph) (bound : List ℤ) (P : Prices) : Type 0 where
   pub setRange : (s : ℕ) → s < P .sets → PriceRange (setPrice P s)
   pub fewSets : P .sets ≤ 16
   pub rules : (s : ℕ) → s < P .sets → keepsRules g bound P s ≡ true
-  pub covering : (e : ℕ) → e < g .edges → weightAt g e ≤ℤ coverOf g P e
+  pub covering : (e : ℕ) → e < g .edges → worthAt g e ≤ℤ coverOf g P e
 
 few-sets : (g : Graph) (bound : List ℤ) (P : Prices) → Passes (setTest g bound P ∷ []) → P .sets ≤ 16
 few-sets g bound P p = elim (decLt 16 (P .sets)) [
@@ -122,7 +121,7 @@ prices-passed {g} {P} bound lengths p =
       setRange = λ s l. back PriceRange (P .edge) (P .set) later s (omega arith);
       fewSets = few;
       rules = λ s l. both (ltb s 16) (keepsRules g bound P s) (p .1 .0 s (omega (arith, few))) .1;
-      covering = λ e l. leZ-true (weightAt g e) (coverOf g P e) (p .1 .1 .0 e l);
+      covering = λ e l. leZ-true (worthAt g e) (coverOf g P e) (p .1 .1 .0 e l);
     }
   where
     ranged : (k : ℕ) → k < length (allPrices P) → PriceRange (getD (allPrices P) k (pos 0))

@@ -11,13 +11,13 @@ use Rattle.graph.specs.Subgraph.{Feasible, Optimal, weightOf, lacks}
 use Rattle.dual.specs.declared.Measures.{Measures}
 use Rattle.dual.specs.Prices.{Prices}
 use Rattle.dual.specs.Sets.{capacity}
-use Rattle.dual.specs.Gap.{chosenCovered}
+use Rattle.dual.specs.Gap.{halfPoints, chosenCovered}
 use Rattle.dual.specs.Measure.{measure, measures}
 use Rattle.dual.specs.Solve.{withoutSets}
 
 -- What M, measured of the subgraph x against the prices P, means: they are the numbers that are defined, of a feasible subgraph; no slack is below 0,
--- and they add up to the gap; x lacks at most the gap against any feasible subgraph; and no feasible subgraph chooses more edges that an odd set
--- covers than the set's capacity.
+-- and they add up to the gap; twice what x lacks against any feasible subgraph is at most the gap; and no feasible subgraph chooses more edges that an
+-- odd set covers than the set's capacity.
 pub record Meaning (g : Graph) (bound : List ℤ) (x : List ℕ) (P : Prices) (M : Measures) : Type 0 where
   pub numbers : M ≡ measures g bound x P
   pub feasible : Feasible g bound x
@@ -26,14 +26,14 @@ pub record Meaning (g : Graph) (bound : List ℤ) (x : List ℕ) (P : Prices) (M
   pub edgeSlack : pos 0 ≤ℤ M .edges
   pub coverSlack : pos 0 ≤ℤ M .cover
   pub slacks : M .vertices +ℤ M .sets +ℤ M .edges +ℤ M .cover ≡ M .gap
-  pub lack : (y : List ℕ) → Feasible g bound y → lacks g y x ≤ℤ M .gap
+  pub lack : (y : List ℕ) → Feasible g bound y → halfPoints (lacks g y x) ≤ℤ M .gap
   pub sets : (s : ℕ) → s < P .sets → (y : List ℕ) → Feasible g bound y → chosenCovered g y P s ≤ capacity g bound P s
 
--- What the solver's subgraph x and prices say of a feasible subgraph y: measured against these prices y has just the gap that it lacks against x, so
--- that its gap is 0 where it weighs as much as x, or, which is the same, where it is optimal, and not otherwise.
+-- What the solver's subgraph x and prices say of a feasible subgraph y: measured against these prices y has for its gap just twice what it lacks against
+-- x, so that its gap is 0 where it weighs as much as x, or, which is the same, where it is optimal, and not otherwise.
 pub record Certified (g : Graph) (bound : List ℤ) (x : List ℕ) (vertex edge : List ℤ) (y : List ℕ) : Type 0 where
   pub numbers : Measures
   pub measured : measure g bound y (withoutSets vertex edge) ≡ yields numbers
-  pub exact : numbers .gap ≡ lacks g x y
+  pub exact : numbers .gap ≡ halfPoints (lacks g x y)
   pub noGap : (numbers .gap ≡ pos 0) ↔ (weightOf g y ≡ weightOf g x)
   pub optimal : (numbers .gap ≡ pos 0) ↔ Optimal g bound y

@@ -113,7 +113,7 @@ joined g n r c = some? n (joins g r c)
 abbrev pub boundInRange : ℤ → Bool
 boundInRange z = between (pos 0) (pos greatestBound) z
 
--- A price is from 0 to 2,000,000.
+-- A price is from 0 to 4,000,000 half points.
 abbrev pub priceInRange : ℤ → Bool
 priceInRange z = between (pos 0) (pos greatestPrice) z
 

@@ -1,4 +1,4 @@
--- The ranges and lengths of document 01, each once. The code's constants of these names are the same numbers.
+-- The ranges and lengths of documents 01 and 02, each once. The code's constants of these names are the same numbers.
 use Prim.Native.Nat.{ℕ, _+_, _*_}
 
 -- At most 64 rows and as many columns in a bipartite graph (dams and sires), and at most 128 vertices in any (families).
@@ -15,7 +15,8 @@ mostEdges = 1024
 abbrev pub mostNumbers : ℕ
 mostNumbers = mostVertices + mostEdges
 
--- A weight (merit) is from -1,000,000 to 1,000,000, a bound (limit) from 0 to 64, and a price from 0 to 2,000,000; the solver's prices are to 1,000,000.
+-- A weight (merit) is from -1,000,000 to 1,000,000 points, a bound (limit) from 0 to 64, and a price from 0 to 4,000,000 half points; the solver's prices
+-- are to 2,000,000 half points, and the prices of texts by the old rules, in points, to 2,000,000 (request U5).
 abbrev pub greatestWeight : ℕ
 greatestWeight = 1000000
 
@@ -23,10 +24,13 @@ abbrev pub greatestBound : ℕ
 greatestBound = 64
 
 abbrev pub greatestPrice : ℕ
-greatestPrice = 2000000
+greatestPrice = 4000000
 
 abbrev pub greatestSolverPrice : ℕ
-greatestSolverPrice = 1000000
+greatestSolverPrice = 2000000
+
+abbrev pub greatestOldPrice : ℕ
+greatestOldPrice = 2000000
 
 -- At most 16 odd sets (groups). A set has words of 64 bits: 2 for vertices and 16 for edges.
 abbrev pub mostSets : ℕ

@@ -16,7 +16,7 @@ pub struct Shape {
     pub edges: u32,
 }
 
-// The ranges and lengths of document 01, as specs/Limits.antt defines them.
+// The ranges and lengths of documents 01 and 02, as specs/Limits.antt defines them.
 pub const MOST_SIDE: u32 = 64;
 
 pub const MOST_VERTICES: usize = 128;
@@ -31,7 +31,9 @@ pub const GREATEST_WEIGHT: i32 = 1000000;
 
 pub const GREATEST_BOUND: i32 = 64;
 
-pub const GREATEST_PRICE: i32 = 2000000;
+pub const GREATEST_PRICE: i32 = 4000000;
+
+pub const GREATEST_OLD_PRICE: i32 = 2000000;
 
 pub const MOST_SETS: usize = 16;
 

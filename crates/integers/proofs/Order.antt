@@ -97,6 +97,9 @@ zero-times x = omega (order, up-times 0 x)
 pub one-times : (x : ℤ) → pos 1 *ℤ x ≡ x
 one-times x = omega (order, up-times 1 x)
 
+pub two-times : (x : ℤ) → pos 2 *ℤ x ≡ x +ℤ x
+two-times x = omega (order, up-times 2 x, up-add x x)
+
 pub nonneg : {z : ℤ} → pos 0 ≤ℤ z → z ≡ pos (up z)
 nonneg {z = pos n} h = refl
 nonneg {z = negsuc n} h = absurd (h .le)

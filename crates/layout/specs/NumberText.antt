@@ -4,24 +4,30 @@ use mathlib.Core.Bool.{Bool, cond, _&&_}
 use mathlib.Core.List.{List, [], _∷_, _++_}
 use mathlib.Core.Option.{Option, none, some}
 use lib.Dec.{ltb, eqb}
-use lib.IntN.{ℤ}
+use lib.IntN.{ℤ, pos}
 use lib.ListN.{length}
+use Rattle.integers.specs.Integer.{between}
 use Rattle.graph.specs.declared.Fault.{Fault}
 use Rattle.graph.specs.declared.Fault.the-variants.{TextLength, Header, SizeLine, Sizes, LaterLine, LentLength, Bound, Price}
-use Rattle.graph.specs.Limits.{mostNumbers}
+use Rattle.graph.specs.Limits.{mostNumbers, greatestPrice, greatestOldPrice}
 use Rattle.graph.specs.Refusal.{Outcome, Test, once, passing}
-use Rattle.graph.specs.Graph.{upTo, boundInRange, priceInRange}
+use Rattle.graph.specs.Graph.{upTo, boundInRange}
 use Rattle.layout.specs.declared.Rules.{Rules}
-use Rattle.layout.specs.declared.Rules.the-variants.{New}
+use Rattle.layout.specs.declared.Rules.the-variants.{New, Old}
 use Rattle.layout.specs.declared.Numbers.{Numbers}
 use Rattle.layout.specs.declared.Numbers.the-variants.{Bounds, Prices}
 use Rattle.layout.specs.Text.{bytes, words, natural, integer, oneWord, twoWords, header, textFits}
 use Rattle.layout.specs.Lines.{Step, goes, stops, Layout, readText}
 
+-- How great a price may be by the rules.
+abbrev pub greatestPriceBy : Rules → ℕ
+greatestPriceBy New = greatestPrice
+greatestPriceBy Old = greatestOldPrice
+
 -- The range of each sort of number, and the fault outside it.
-abbrev pub inRange : Numbers → ℤ → Bool
-inRange Bounds z = boundInRange z
-inRange Prices z = priceInRange z
+abbrev pub inRange : Rules → Numbers → ℤ → Bool
+inRange rules Bounds z = boundInRange z
+inRange rules Prices z = between (pos 0) (pos (greatestPriceBy rules)) z
 
 abbrev pub outside : Numbers → Fault
 outside Bounds = Bound
@@ -37,15 +43,15 @@ numberSizes count none = stops SizeLine
 numberSizes count (some s) = cond (eqb (s .0) count && eqb (s .1) 1) (goes []) (stops Sizes)
 
 -- Then one number a line.
-abbrev pub numberValue : Numbers → List ℤ → Option ℤ → Step (List ℤ)
-numberValue what zs none = stops LaterLine
-numberValue what zs (some z) = cond (inRange what z) (goes (zs ++ (z ∷ []))) (stops (outside what))
+abbrev pub numberValue : Rules → Numbers → List ℤ → Option ℤ → Step (List ℤ)
+numberValue rules what zs none = stops LaterLine
+numberValue rules what zs (some z) = cond (inRange rules what z) (goes (zs ++ (z ∷ []))) (stops (outside what))
 
 abbrev pub numberLayout : Rules → Numbers → ℕ → Layout (Unit {0}) (List ℤ) (List ℤ)
 numberLayout rules what count = record {
   headerLine = numberHeader;
   sizeLine = λ h l. numberSizes count (twoWords (natural rules) (natural rules) (words l));
-  laterLine = λ zs l. numberValue what zs (oneWord (integer rules) (words l));
+  laterLine = λ zs l. numberValue rules what zs (oneWord (integer rules) (words l));
   more = λ zs. ltb (length zs) count;
   result = λ zs. zs;
 }

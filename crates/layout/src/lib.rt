@@ -2,7 +2,8 @@
 use graph::Refusal;
 use graph::Shape;
 
-// How a number may be written: in one way, or as the old rules of document 01 take it, which only an old text that is rewritten is read by.
+// The rules of numbers: those of today, or the old ones of document 01, which only an old text that is rewritten is read by. They say how a number may be
+// written, and how great a price may be.
 pub enum Rules {
     New,
     Old,

@@ -17,14 +17,14 @@ use Rattle.integers.proofs.Order.{order, leZ-true}
 use Rattle.integers.proofs.Sum.{sumℤ-cong}
 use Rattle.graph.specs.declared.Fault.the-variants.{Degree}
 use Rattle.graph.specs.Refusal.{yields, each, lowest, passing}
-use Rattle.graph.specs.Graph.{Graph, vertices, weightAt, boundAt}
+use Rattle.graph.specs.Graph.{Graph, vertices, boundAt}
 use Rattle.graph.specs.Subgraph.{markAt, degree}
 use Rattle.graph.specs.Passed.{Bounded}
 use Rattle.graph.proofs.Passing.{lowest-none, lowest-cong, passes}
 use Rattle.dual.specs.declared.Measures.{Measures}
 use Rattle.dual.specs.Prices.{Prices, vertexPrice, edgePrice, setPrice}
 use Rattle.dual.specs.Sets.{load, keepsRules}
-use Rattle.dual.specs.Gap.{coverOf, covered, totalOf, chosenCovered}
+use Rattle.dual.specs.Gap.{halfPoints, worthAt, coverOf, covered, totalOf, chosenCovered}
 use Rattle.dual.specs.Measure.{measures, priceTest}
 use Rattle.checks.specs.declared.Check.{Check}
 use Rattle.checks.specs.declared.Check.the-variants as Check
@@ -36,10 +36,10 @@ use Rattle.measure.specs.Tables.{totalBy, measuresBy}
 use Rattle.measure.proofs.Tests.{each-same}
 use Rattle.measure.proofs.Shown.{priceTests}
 
--- The seven numbers one by one; the last is the difference of the total and the weight.
-pub numbers-are : {a a′ b b′ c c′ d d′ e e′ f f′ h : ℤ} → a ≡ a′ → b ≡ b′ → c ≡ c′ → d ≡ d′ → e ≡ e′ → f ≡ f′ → h ≡ b -ℤ a →
+-- The seven numbers one by one; the last is the difference of the total and the weight in half points.
+pub numbers-are : {a a′ b b′ c c′ d d′ e e′ f f′ h : ℤ} → a ≡ a′ → b ≡ b′ → c ≡ c′ → d ≡ d′ → e ≡ e′ → f ≡ f′ → h ≡ b -ℤ halfPoints a →
     _≡_ {A = Measures} (record { weight = a; total = b; vertices = c; sets = d; edges = e; cover = f; gap = h })
-    (record { weight = a′; total = b′; vertices = c′; sets = d′; edges = e′; cover = f′; gap = b′ -ℤ a′ })
+    (record { weight = a′; total = b′; vertices = c′; sets = d′; edges = e′; cover = f′; gap = b′ -ℤ halfPoints a′ })
 numbers-are p q r s t u v = cc
 
 module _ (g : Graph) (bound : List ℤ) (x : List ℕ) (P : Prices) where
@@ -86,11 +86,11 @@ module _ (g : Graph) (bound : List ℤ) (x : List ℕ) (P : Prices) where
 
   -- The cover test is made on the table of covers.
   pub cover-say : (cs : List ℤ) {r m : Lowest} → ((e : ℕ) → e < g .edges → (getD cs e (pos 0) ≡ coverOf g P e) × Within (2 ^ 36) (getD cs e (pos 0))) →
-      lowestSays r ≡ lowest (g .edges) (λ e. leZ (weightAt g e) (getD cs e (pos 0))) → r ≡ m → lowest (g .edges) (covered g P) ≡ lowestSays m
+      lowestSays r ≡ lowest (g .edges) (λ e. leZ (worthAt g e) (getD cs e (pos 0))) → r ≡ m → lowest (g .edges) (covered g P) ≡ lowestSays m
   cover-say cs covering e is =
       sym
-      (lowest-cong (g .edges) (λ e. leZ (weightAt g e) (getD cs e (pos 0))) (covered g P)
-      (λ e l. ap (leZ (weightAt g e)) (covering e l .0)))
+      (lowest-cong (g .edges) (λ e. leZ (worthAt g e) (getD cs e (pos 0))) (covered g P)
+      (λ e l. ap (leZ (worthAt g e)) (covering e l .0)))
       ∙ sym e
       ∙ ap lowestSays is
 
@@ -106,7 +106,7 @@ module _ (g : Graph) (bound : List ℤ) (x : List ℕ) (P : Prices) where
       (sumℤ-cong (P .sets) _ _ (λ k l.
       ap₂ (λ (m n : ℕ). setPrice P k *ℤ (pos (m / 2) -ℤ pos n)) (loaded k (omega arith) .0) (covering k l .0)))
       refl
-      (sumℤ-cong (g .edges) _ _ (λ e l. ap (λ (z : ℤ). pos (markAt x e) *ℤ (z -ℤ weightAt g e)) (covers e l .0)))
+      (sumℤ-cong (g .edges) _ _ (λ e l. ap (λ (z : ℤ). pos (markAt x e) *ℤ (z -ℤ worthAt g e)) (covers e l .0)))
       refl
     where
       total : totalBy g bound P loads ≡ totalOf g bound P

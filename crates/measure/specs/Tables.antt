@@ -8,12 +8,12 @@ use lib.ListN.{getD}
 use Rattle.integers.specs.Sum.{sumℤ}
 use Rattle.graph.specs.declared.Fault.the-variants.{LentLength}
 use Rattle.graph.specs.Refusal.{Test, once}
-use Rattle.graph.specs.Graph.{Graph, vertices, weightAt, boundAt}
+use Rattle.graph.specs.Graph.{Graph, vertices, boundAt}
 use Rattle.graph.specs.Subgraph.{markAt, weightOf}
 use Rattle.graph.specs.Tests.{graphLengths, graphTests, boundTest, markTest}
 use Rattle.dual.specs.declared.Measures.{Measures}
 use Rattle.dual.specs.Prices.{Prices, vertexPrice, edgePrice, setPrice}
-use Rattle.dual.specs.Gap.{edgeSlack}
+use Rattle.dual.specs.Gap.{halfPoints, worthAt, edgeSlack}
 
 -- The tests 9, 4, 6, 7, 8, 10 and 11; others tells of the lengths that are not the graph's.
 abbrev pub subgraphTests : Graph → List ℤ → List ℕ → Bool → List Test
@@ -34,6 +34,6 @@ measuresBy g bound x P degree load covered cover = record {
   vertices = sumℤ (vertices g) (λ v. vertexPrice P v *ℤ (boundAt bound v -ℤ pos (getD degree v 0)));
   sets = sumℤ (P .sets) (λ k. setPrice P k *ℤ (pos (getD load k 0 / 2) -ℤ pos (getD covered k 0)));
   edges = edgeSlack g x P;
-  cover = sumℤ (g .edges) (λ e. pos (markAt x e) *ℤ (getD cover e (pos 0) -ℤ weightAt g e));
-  gap = totalBy g bound P load -ℤ weightOf g x;
+  cover = sumℤ (g .edges) (λ e. pos (markAt x e) *ℤ (getD cover e (pos 0) -ℤ worthAt g e));
+  gap = totalBy g bound P load -ℤ halfPoints (weightOf g x);
 }

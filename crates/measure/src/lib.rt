@@ -149,6 +149,7 @@ fn numbers(
 {
     let total = total_of(s, bound, vertex_price, edge_price, sets, set_price, load);
     let chosen_weight = sums::weight_of(s.edges, weight, chosen);
+    let worth = dual::half_points(chosen_weight);
     Measures {
         weight: chosen_weight,
         total,
@@ -156,7 +157,7 @@ fn numbers(
         sets: sums::set_slack(sets, load, covered, set_price),
         edges: sums::edge_slack(s.edges, chosen, edge_price),
         cover: sums::cover_slack(s.edges, cover, weight, chosen),
-        gap: integers::subtract(total, chosen_weight),
+        gap: integers::subtract(total, worth),
     }
 }
 

@@ -51,28 +51,28 @@ module _ (count : ℕ) {o : Option (ℕ × ℕ)} {r : Pair} (says : pairSays r �
 
 -- A later line.
 module _ (rules : Rules) (what : Numbers) (ws : List (List ℕ)) {r : Integer} (says : integerSays r ≡ oneWord (integer rules) ws) where
-  pub number-bad : r ≡ Integer.Bad → (zs : List ℤ) → stops LaterLine ≡ numberValue what zs (oneWord (integer rules) ws)
-  number-bad is zs = ap (numberValue what zs) (sym (ap integerSays is) ∙ says)
+  pub number-bad : r ≡ Integer.Bad → (zs : List ℤ) → stops LaterLine ≡ numberValue rules what zs (oneWord (integer rules) ws)
+  number-bad is zs = ap (numberValue rules what zs) (sym (ap integerSays is) ∙ says)
 
   module _ {z : ℤ} (is : r ≡ Integer.Is z) where
     -- It fits an `i32`.
     pub number-back : toZ w32 (ofZ w32 z) ≡ z
     number-back = toZ-ofZ {w = w32} (one-fits rules ws z (sym says ∙ ap integerSays is))
 
-    number-does : (b : Bool) → inRange what z ≡ b → (zs : List ℤ) →
-        cond b (goes (zs ++ (z ∷ []))) (stops (outside what)) ≡ numberValue what zs (oneWord (integer rules) ws)
+    number-does : (b : Bool) → inRange rules what z ≡ b → (zs : List ℤ) →
+        cond b (goes (zs ++ (z ∷ []))) (stops (outside what)) ≡ numberValue rules what zs (oneWord (integer rules) ws)
     number-does b e zs =
         ap (λ (x : Bool). cond {A = Step (List ℤ)} x (goes (zs ++ (z ∷ []))) (stops (outside what))) (sym e)
-        ∙ ap (numberValue what zs) (sym (ap integerSays is) ∙ says)
+        ∙ ap (numberValue rules what zs) (sym (ap integerSays is) ∙ says)
 
     -- It is in range, or not. Code sees it as the number of its bits.
-    module _ {x : Bool} {y : ℤ} (tests : x ≡ inRange what y) (same : y ≡ z) where
+    module _ {x : Bool} {y : ℤ} (tests : x ≡ inRange rules what y) (same : y ≡ z) where
       pub number-in : x ≡ true →
-          ((zs : List ℤ) → goes (zs ++ (toZ w32 (ofZ w32 z) ∷ [])) ≡ numberValue what zs (oneWord (integer rules) ws))
-          × (inRange what (toZ w32 (ofZ w32 z)) ≡ true)
+          ((zs : List ℤ) → goes (zs ++ (toZ w32 (ofZ w32 z) ∷ [])) ≡ numberValue rules what zs (oneWord (integer rules) ws))
+          × (inRange rules what (toZ w32 (ofZ w32 z)) ≡ true)
       number-in t =
-          let e : inRange what z ≡ true = ap (inRange what) (sym same) ∙ sym tests ∙ t in
+          let e : inRange rules what z ≡ true = ap (inRange rules what) (sym same) ∙ sym tests ∙ t in
           rw number-back ((λ zs. number-does true e zs), e)
 
-      pub number-out : x ≡ false → (zs : List ℤ) → stops (outside what) ≡ numberValue what zs (oneWord (integer rules) ws)
-      number-out t = number-does false (ap (inRange what) (sym same) ∙ sym tests ∙ t)
+      pub number-out : x ≡ false → (zs : List ℤ) → stops (outside what) ≡ numberValue rules what zs (oneWord (integer rules) ws)
+      number-out t = number-does false (ap (inRange rules what) (sym same) ∙ sym tests ∙ t)

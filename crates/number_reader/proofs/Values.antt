@@ -1,5 +1,5 @@
 -- The number reader's loop, on plain values: the output holds the numbers read so far, and then 0.
-use Prim.Native.Nat.{ℕ, _+_, _<_, _≤_}
+use Prim.Native.Nat.{ℕ, _+_, _^_, _<_, _≤_}
 use mathlib.Core.Path.{_≡_, refl, sym, ap, ap₂, _∙_, subst}
 use mathlib.Core.Bool.{true}
 use mathlib.Core.List.{List, [], _∷_, _++_}
@@ -12,12 +12,14 @@ use borrow.Author.Tests.{ltb-true}
 use mir.Syntax.{w32}
 use mir.Val.{SFits, toZ, ofZ}
 use mir.Facts.{toZ-ofZ}
-use Rattle.integers.specs.Integer.{Within}
+use Rattle.integers.specs.Integer.{Within, between}
 use Rattle.integers.proofs.Order.{order, between-true, fits-within}
 use Rattle.graph.specs.declared.Refusal.{Refusal}
 use Rattle.graph.specs.declared.Fault.{Fault}
+use Rattle.graph.specs.Limits.{greatestBound, greatestPrice, greatestOldPrice}
 use Rattle.graph.specs.Refusal.{Outcome, yields, refuses, told, reported, filled}
 use Rattle.layout.specs.declared.Rules.{Rules}
+use Rattle.layout.specs.declared.Rules.the-variants.{New, Old}
 use Rattle.layout.specs.declared.Numbers.{Numbers}
 use Rattle.layout.specs.declared.Numbers.the-variants.{Bounds, Prices}
 use Rattle.layout.specs.declared.NumbersAnswer.{NumbersAnswer}
@@ -41,9 +43,16 @@ small : (m : ℕ) (z : ℤ) → pos 0 ≤ℤ z → z ≤ℤ pos m → Within m z
 small m (pos n) p q = omega order
 small m (negsuc n) p q = omega order
 
-range-fits : (what : Numbers) (z : ℤ) → inRange what z ≡ true → SFits w32 z
-range-fits Bounds z e = let w = between-true (pos 0) (pos 64) z e in fits-within w32 z (small 64 z (w .0) (w .1)) (lit< tt)
-range-fits Prices z e = let w = between-true (pos 0) (pos 2000000) z e in fits-within w32 z (small 2000000 z (w .0) (w .1)) (lit< tt)
+range-fits : (rules : Rules) (what : Numbers) (z : ℤ) → inRange rules what z ≡ true → SFits w32 z
+range-fits rules what z e = go what rules e
+  where
+    to : (m : ℕ) → m < 2 ^ 31 → between (pos 0) (pos m) z ≡ true → SFits w32 z
+    to m l e = let w = between-true (pos 0) (pos m) z e in fits-within w32 z (small m z (w .0) (w .1)) l
+
+    go : (what : Numbers) (rules : Rules) → inRange rules what z ≡ true → SFits w32 z
+    go Bounds rules e = to greatestBound (lit< tt) e
+    go Prices New e = to greatestPrice (lit< tt) e
+    go Prices Old e = to greatestOldPrice (lit< tt) e
 
 -- A refusal reports itself, whatever the output holds.
 pub read-refused : {rules : Rules} {what : Numbers} {n : ℕ} {s : List ℕ} {out : List ℤ} (x : Refusal) →
@@ -84,13 +93,13 @@ module _ {rules : Rules} {what : Numbers} {n : ℕ} {s : List ℕ} {j : ℕ} {ou
       pub turn-below : i < n
       turn-below = ltb-true i n (later-found F is .1)
 
-      module _ {l : NumberLine} (does : (zs : List ℤ) → valueSays zs l ≡ numberValue what zs (oneWord (integer rules) (words (part s a e)))) where
+      module _ {l : NumberLine} (does : (zs : List ℤ) → valueSays zs l ≡ numberValue rules what zs (oneWord (integer rules) (words (part s a e)))) where
         pub turn-stops : {f : Fault} → l ≡ NumberLine.Refused f → {x : Refusal} → x ≡ record { fault = f; place = d .line } →
             NumbersReading rules what n s (NumbersAnswer.Refused x) out
         turn-stops {f} it {x} same =
             read-refused x (later-stops (numberLayout rules what n) (T .walk) right F is f (sym (does (T .read)) ∙ ap (valueSays (T .read)) it) same)
 
-        pub turn-takes : {z : ℤ} → l ≡ NumberLine.Is z → ValueInRange what l → NumberTurn rules what n s j (set out i (toZ w32 (ofZ w32 z))) d (i + 1)
+        pub turn-takes : {z : ℤ} → l ≡ NumberLine.Is z → ValueInRange rules what l → NumberTurn rules what n s j (set out i (toZ w32 (ofZ w32 z))) d (i + 1)
         turn-takes {z} it ranged =
             let b = turn-below in
             record {
@@ -99,7 +108,7 @@ module _ {rules : Rules} {what : Numbers} {n : ℕ} {s : List ℕ} {j : ℕ} {ou
               count = length-append (T .read) (z ∷ []) ∙ ap (λ k. k + 1) (T .count);
               room = omega (arith, b);
               holds =
-                  ap₂ (λ (xs : List ℤ) (x : ℤ). set xs i x) (T .holds) (toZ-ofZ {w = w32} (range-fits what z (subst (ValueInRange what) it ranged)))
+                  ap₂ (λ (xs : List ℤ) (x : ℤ). set xs i x) (T .holds) (toZ-ofZ {w = w32} (range-fits rules what z (subst (ValueInRange rules what) it ranged)))
                   ∙ ap (λ k. set (filled n (pos 0) (T .read)) k z) (sym (T .count))
                   ∙ filled-more n (pos 0) (T .read) z (omega (arith, b, T .count));
               same = length-set out i (toZ w32 (ofZ w32 z)) ∙ T .same;

@@ -27,9 +27,9 @@ abbrev pub valueSays : List ℤ → NumberLine → Step (List ℤ)
 valueSays zs (NumberLine.Is z) = goes (zs ++ (z ∷ []))
 valueSays zs (NumberLine.Refused f) = stops f
 
-abbrev pub ValueInRange : Numbers → NumberLine → Type 0
-ValueInRange what (NumberLine.Is z) = inRange what z ≡ true
-ValueInRange what (NumberLine.Refused f) = Unit {0}
+abbrev pub ValueInRange : Rules → Numbers → NumberLine → Type 0
+ValueInRange rules what (NumberLine.Is z) = inRange rules what z ≡ true
+ValueInRange rules what (NumberLine.Refused f) = Unit {0}
 
 -- The answer r is what reading the text s by the rules yields, and the output holds it.
 pub record NumbersReading (rules : Rules) (what : Numbers) (count : ℕ) (s : List ℕ) (r : NumbersAnswer) (out : List ℤ) : Type 0 where

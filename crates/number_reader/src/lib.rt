@@ -1,6 +1,8 @@
 // Reads a text of bounds (limits) or of prices.
 use checks::Check;
 use graph::Fault;
+use graph::GREATEST_OLD_PRICE;
+use graph::GREATEST_PRICE;
 use graph::MOST_NUMBERS;
 use layout::Numbers;
 use layout::NumbersAnswer;
@@ -17,7 +19,7 @@ ghost use lib.ListN.{length, replicate};
 ghost use Rattle.graph.specs.Refusal.{told, reported, output};
 ghost use Rattle.layout.specs.Text.{words, natural, integer, oneWord, twoWords};
 ghost use Rattle.layout.specs.Lines.{reading};
-ghost use Rattle.layout.specs.NumberText.{inRange, outside, numberSizes, numberValue, numberLayout, readNumbersBy, readNumbers};
+ghost use Rattle.layout.specs.NumberText.{greatestPriceBy, inRange, outside, numberSizes, numberValue, numberLayout, readNumbersBy, readNumbers};
 ghost use Rattle.layout.specs.Answers.{numbersSay};
 ghost use Rattle.lines.specs.Walk.{Walk};
 ghost use Rattle.number_reader.specs.OnLine.{countSays, valueSays, ValueInRange, NumbersReading};
@@ -49,12 +51,22 @@ enum NumberLine {
     Refused(Fault),
 }
 
-fn in_range(what: Numbers, z: i32) -> bool
-    ensures { λ r. ⌜ r ≡ inRange what z ⌝ }
+// How great a price may be by the rules.
+fn greatest_price(rules: Rules) -> i32
+    ensures { λ r. ⌜ r ≡ pos (greatestPriceBy rules) ⌝ }
+{
+    match rules {
+        Rules::New => GREATEST_PRICE,
+        Rules::Old => GREATEST_OLD_PRICE,
+    }
+}
+
+fn in_range(rules: Rules, what: Numbers, z: i32) -> bool
+    ensures { λ r. ⌜ r ≡ inRange rules what z ⌝ }
 {
     match what {
         Numbers::Bounds => checks::bound_in_range(z),
-        Numbers::Prices => checks::price_in_range(z),
+        Numbers::Prices => integers::in_range(z, 0, greatest_price(rules)),
     }
 }
 
@@ -68,13 +80,13 @@ fn outside(what: Numbers) -> Fault
 }
 
 fn number_on(line: &[u8], what: Numbers, rules: Rules) -> NumberLine
-    ensures says { λ r. ⌜ ((zs : List ℤ) → valueSays zs r ≡ numberValue what zs (oneWord (integer rules) (words (now (line .entry))))) ⌝ }
-    ensures ranged { λ r. ⌜ ValueInRange what r ⌝ }
+    ensures says { λ r. ⌜ ((zs : List ℤ) → valueSays zs r ≡ numberValue rules what zs (oneWord (integer rules) (words (now (line .entry))))) ⌝ }
+    ensures ranged { λ r. ⌜ ValueInRange rules what r ⌝ }
 {
     let Integer::Is(z) = text::one_integer(line, rules) else {
         return NumberLine::Refused(Fault::LaterLine);
     };
-    if in_range(what, z) {
+    if in_range(rules, what, z) {
         NumberLine::Is(z)
     } else {
         NumberLine::Refused(outside(what))

@@ -1,6 +1,6 @@
--- Where the method ends, its subgraph is optimal, and the prices that it hands out are in range, cover every edge and leave no gap.
+-- Where the method ends, its subgraph is optimal, and the prices that it hands out are even, in range, cover every edge and leave no gap.
 use Prim.Native.Nat.{ℕ, _+_, _*_, _-_, _≤_, _<_}
-use mathlib.Core.Path.{_≡_, ap, ap₂, _∙_}
+use mathlib.Core.Path.{_≡_, refl, ap, ap₂, _∙_}
 use mathlib.Core.Logic.{⊎-elim}
 use mathlib.Core.List.{List}
 use native.Mathlib.Omega.{arith}
@@ -9,12 +9,12 @@ use native.Mathlib.Decide.{decLt}
 use lib.IntN.{ℤ, pos, negsuc, _+ℤ_, _-ℤ_, _*ℤ_, *ℤ-zero}
 use lib.Signed.{_≤ℤ_}
 use Rattle.integers.specs.Integer.{up, dn}
-use Rattle.integers.proofs.Order.{order, up-add, up-diff, zero-times, nonneg}
+use Rattle.integers.proofs.Order.{order, up-add, up-diff, up-times, zero-times, nonneg}
 use Rattle.graph.specs.Graph.{Graph, vertices, firstEnd, secondEnd, weightAt, boundAt}
 use Rattle.graph.specs.Subgraph.{Feasible, markAt, degree}
 use Rattle.graph.specs.Passed.{Bounded}
 use Rattle.dual.specs.Prices.{Prices, vertexPrice, edgePrice}
-use Rattle.dual.specs.Gap.{coverOf, gapOf}
+use Rattle.dual.specs.Gap.{halfPoints, worthAt, coverOf, gapOf}
 use Rattle.dual.specs.Solve.{withoutSets, SolverPrice, Solved}
 use Rattle.duality.proofs.Conditions.{Incident, DualFeasible}
 use Rattle.duality.proofs.Passed.{passed-incident}
@@ -56,9 +56,9 @@ module _ {g : Graph} {bound : List ℤ} {x : List ℕ} {price : ℕ → ℕ} {ve
   }
 
   vertex-price : (v : ℕ) → v < vertices g → SolverPrice (vertexPrice P v)
-  vertex-price v l = rw (out .ofVertex v l) (record { least = omega order; greatest = omega (order, good .most v l) })
+  vertex-price v l = rw (out .ofVertex v l) (record { least = omega order; greatest = omega (order, good .most v l); points = pos (price v - level); even = refl })
 
-  -- An edge's price is at most the level, and with its ends' prices it makes up the weight, or more where it is not chosen.
+  -- An edge's price is at most the level in points, and with its ends' prices it makes up what the edge is worth, or more where it is not chosen.
   module _ (e : ℕ) (l : e < g .edges) where
     price-small : markAt x e * (value g e - cost g price e) ≤ level
     price-small = ⊎-elim
@@ -75,10 +75,11 @@ module _ {g : Graph} {bound : List ℤ} {x : List ℕ} {price : ℕ → ℕ} {ve
         (eq-zero-or-pos (markAt x e))
 
     edge-price : SolverPrice (edgePrice P e)
-    edge-price = rw (out .ofEdge e l) (record { least = omega order; greatest = omega (order, price-small) })
+    edge-price = rw (out .ofEdge e l)
+        (record { least = omega order; greatest = omega (order, price-small); points = pos (markAt x e * (value g e - cost g price e)); even = refl })
 
     abbrev paid : ℕ
-    paid = (price (firstEnd g e) - level) + (price (secondEnd g e) - level) + markAt x e * (value g e - cost g price e) + 0
+    paid = 2 * (price (firstEnd g e) - level) + 2 * (price (secondEnd g e) - level) + 2 * (markAt x e * (value g e - cost g price e)) + 0
 
     cover-is : coverOf g P e ≡ pos paid
     cover-is =
@@ -86,8 +87,8 @@ module _ {g : Graph} {bound : List ℤ} {x : List ℕ} {price : ℕ → ℕ} {ve
         (ap₂ _+ℤ_ (out .ofVertex (firstEnd g e) (ends .first e l)) (out .ofVertex (secondEnd g e) (ends .second e l)))
         (out .ofEdge e l)
 
-    -- A chosen edge's prices make up its weight, and those of any other edge at least that.
-    just : markAt x e ≡ 1 → up (weightAt g e) ≡ paid + dn (weightAt g e)
+    -- A chosen edge's prices make up what it is worth, and those of any other edge at least that.
+    just : markAt x e ≡ 1 → 2 * up (weightAt g e) ≡ paid + 2 * dn (weightAt g e)
     just k =
         omega (
           arith,
@@ -97,7 +98,7 @@ module _ {g : Graph} {bound : List ℤ} {x : List ℕ} {price : ℕ → ℕ} {ve
           good .least (secondEnd g e) (ends .second e l),
         )
 
-    enough : up (weightAt g e) ≤ paid + dn (weightAt g e)
+    enough : 2 * up (weightAt g e) ≤ paid + 2 * dn (weightAt g e)
     enough = ⊎-elim
         (λ z.
         omega (
@@ -111,28 +112,28 @@ module _ {g : Graph} {bound : List ℤ} {x : List ℕ} {price : ℕ → ℕ} {ve
         (λ s. omega (arith, just (omega (arith, good .marks e))))
         (eq-zero-or-pos (markAt x e))
 
-    covering : weightAt g e ≤ℤ coverOf g P e
-    covering = rw cover-is (omega (order, enough))
+    covering : worthAt g e ≤ℤ coverOf g P e
+    covering = rw cover-is (omega (order, enough, up-times 2 (weightAt g e)))
 
     -- No slack of the edge, nor of its cover.
     edge-slack : pos (1 - markAt x e) *ℤ edgePrice P e ≡ pos 0
     edge-slack = ⊎-elim
-        (λ z. ap (λ y. pos (1 - markAt x e) *ℤ y) (out .ofEdge e l ∙ ap pos (times-none (markAt x e) (value g e - cost g price e) z))
+        (λ z. ap (λ y. pos (1 - markAt x e) *ℤ y) (out .ofEdge e l ∙ ap (λ n. halfPoints (pos n)) (times-none (markAt x e) (value g e - cost g price e) z))
         ∙ *ℤ-zero (pos (1 - markAt x e)))
         (λ s.
         let k : 1 - markAt x e ≡ 0 = omega arith in
         ap (λ n. pos n *ℤ edgePrice P e) k ∙ zero-times (edgePrice P e))
         (eq-zero-or-pos (markAt x e))
 
-    cover-slack : pos (markAt x e) *ℤ (coverOf g P e -ℤ weightAt g e) ≡ pos 0
+    cover-slack : pos (markAt x e) *ℤ (coverOf g P e -ℤ worthAt g e) ≡ pos 0
     cover-slack = ⊎-elim
-        (λ z. ap (λ n. pos n *ℤ (coverOf g P e -ℤ weightAt g e)) z ∙ zero-times (coverOf g P e -ℤ weightAt g e))
+        (λ z. ap (λ n. pos n *ℤ (coverOf g P e -ℤ worthAt g e)) z ∙ zero-times (coverOf g P e -ℤ worthAt g e))
         (λ s. ap (λ y. pos (markAt x e) *ℤ y) (nothing (omega (arith, good .marks e))) ∙ *ℤ-zero (pos (markAt x e)))
         (eq-zero-or-pos (markAt x e))
       where
-        nothing : markAt x e ≡ 1 → coverOf g P e -ℤ weightAt g e ≡ pos 0
+        nothing : markAt x e ≡ 1 → coverOf g P e -ℤ worthAt g e ≡ pos 0
         nothing k =
-            ap (λ y. y -ℤ weightAt g e) cover-is ∙ omega (order, just k, up-diff (pos paid) (weightAt g e))
+            ap (λ y. y -ℤ worthAt g e) cover-is ∙ omega (order, just k, up-diff (pos paid) (worthAt g e), up-times 2 (weightAt g e))
 
   -- A vertex with a price above 0 is saturated.
   saturated : (v : ℕ) → v < vertices g → level < price v → degree g x v ≡ limit bound v
@@ -146,7 +147,7 @@ module _ {g : Graph} {bound : List ℤ} {x : List ℕ} {price : ℕ → ℕ} {ve
         ap (λ y. vertexPrice P v *ℤ y) e ∙ *ℤ-zero (vertexPrice P v)
     | no s ↦
         let e : price v - level ≡ 0 = omega (arith, s) in
-        ap (λ y. y *ℤ (boundAt bound v -ℤ pos (degree g x v))) (out .ofVertex v l ∙ ap pos e)
+        ap (λ y. y *ℤ (boundAt bound v -ℤ pos (degree g x v))) (out .ofVertex v l ∙ ap (λ n. halfPoints (pos n)) e)
         ∙ zero-times (boundAt bound v -ℤ pos (degree g x v))
   ]
 

@@ -10,6 +10,7 @@ use lib.ListN.{getD}
 use Rattle.graph.specs.Graph.{Graph, vertices}
 use Rattle.graph.specs.Subgraph.{markAt}
 use Rattle.graph.specs.Passed.{Passed, MarksHold}
+use Rattle.dual.specs.Gap.{halfPoints}
 use Rattle.tree.specs.Method.{level, value, cost, limit, Good, Done}
 use Rattle.tree.specs.Tree.{levels, Levelled}
 
@@ -43,11 +44,11 @@ pub record Payable (g : Graph) (x : List ℕ) (price : List ℤ) : Type 0 where
   pub marks : MarksHold (g .edges) x
   pub chosen : (e : ℕ) → e < g .edges → markAt x e ≡ 1 → cost g (levels price) e ≤ value g e
 
--- The price of edge e: where it is chosen, what its weight is above its ends' prices.
+-- The price of edge e in points: where it is chosen, what its weight is above its ends' prices.
 abbrev pub edgePriceOf : Graph → List ℕ → (ℕ → ℕ) → ℕ → ℕ
 edgePriceOf g x price e = markAt x e * (value g e - cost g price e)
 
--- The prices that are handed out.
+-- The prices that are handed out, in half points.
 pub record HandedOut (g : Graph) (x : List ℕ) (price : ℕ → ℕ) (vertex edge : List ℤ) : Type 0 where
-  pub ofVertex : (v : ℕ) → v < vertices g → getD vertex v (pos 0) ≡ pos (price v - level)
-  pub ofEdge : (e : ℕ) → e < g .edges → getD edge e (pos 0) ≡ pos (edgePriceOf g x price e)
+  pub ofVertex : (v : ℕ) → v < vertices g → getD vertex v (pos 0) ≡ halfPoints (pos (price v - level))
+  pub ofEdge : (e : ℕ) → e < g .edges → getD edge e (pos 0) ≡ halfPoints (pos (edgePriceOf g x price e))

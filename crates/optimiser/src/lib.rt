@@ -10,6 +10,7 @@ ghost use Rattle.graph.specs.Limits.{mostVertices};
 ghost use Rattle.graph.specs.Graph.{graphOf, verticesIn, firstEnd};
 ghost use Rattle.graph.specs.Index.{indexOf};
 ghost use Rattle.graph.specs.Passed.{Passed, Bounded};
+ghost use Rattle.dual.specs.Gap.{halfPoints};
 ghost use Rattle.dual.specs.Solve.{Solved};
 ghost use Rattle.tree.specs.Method.{level, value, Solvable};
 ghost use Rattle.tree.specs.Tree.{entries, levels, Levelled, Degrees};
@@ -129,7 +130,7 @@ fn serve_all(
     }
 }
 
-// The price of edge e: where it is chosen, what its weight is above its ends' prices.
+// The price of edge e in points: where it is chosen, what its weight is above its ends' prices.
 fn edge_price_of(
     s: Shape,
     row: &[u32],
@@ -150,7 +151,7 @@ fn edge_price_of(
     tree::value_at(weight, e) - cost
 }
 
-// The prices of all edges.
+// The prices of all edges, in half points.
 fn edge_prices(
     s: Shape,
     row: &[u32],
@@ -162,25 +163,25 @@ fn edge_prices(
 )
     requires { ⌜ Payable (graphOf s (now row) (now column) (now weight)) (now chosen) (now price) ⌝ }
     requires { ⌜ length (now edge) ≡ s .edges ⌝ }
-    ensures { λ _. ⌜ ((e : ℕ) → e < s .edges → getD (now (edge .exit)) e (pos 0) ≡ pos (edgePriceOf (graphOf s (now (row .entry)) (now (column .entry)) (now (weight .entry))) (now (chosen .entry)) (levels (now (price .entry))) e)) ⌝ }
+    ensures { λ _. ⌜ ((e : ℕ) → e < s .edges → getD (now (edge .exit)) e (pos 0) ≡ halfPoints (pos (edgePriceOf (graphOf s (now (row .entry)) (now (column .entry)) (now (weight .entry))) (now (chosen .entry)) (levels (now (price .entry))) e))) ⌝ }
 {
     let mut e = 0;
     while e < edge.len() {
         let k = edge_price_of(s, row, column, weight, chosen, price, e);
-        tree::set_level(edge, e, k);
+        tree::set_level(edge, e, 2 * k);
         e += 1;
     }
 }
 
-// Takes the level off every vertex price.
-fn lower(price: &mut [i32])
+// The prices of all vertices, in half points: takes the level off each and doubles it.
+fn vertex_prices(price: &mut [i32])
     requires { ⌜ Levelled (length (now price)) (now price) ⌝ }
-    ensures { λ _. ⌜ ((v : ℕ) → v < length (now (price .entry)) → getD (now (price .exit)) v (pos 0) ≡ pos (levels (now (price .entry)) v - level)) ⌝ }
+    ensures { λ _. ⌜ ((v : ℕ) → v < length (now (price .entry)) → getD (now (price .exit)) v (pos 0) ≡ halfPoints (pos (levels (now (price .entry)) v - level))) ⌝ }
 {
     let mut v = 0;
     while v < price.len() {
         let k = integers::natural_at(price, v) - LEVEL;
-        tree::set_level(price, v, k);
+        tree::set_level(price, v, 2 * k);
         v += 1;
     }
 }
@@ -207,5 +208,5 @@ pub fn optimise(
     first_prices(s, row, column, weight, price);
     serve_all(s, row, column, weight, bound, index, chosen, price);
     edge_prices(s, row, column, weight, chosen, price, edge);
-    lower(price);
+    vertex_prices(price);
 }

@@ -184,10 +184,10 @@ sizes-few count (some s) zs e = go (eqb (s .0) count && eqb (s .1) 1) e
     go true h = let i : [] ≡ zs = cc in subst (Few count) i (omega arith)
     go false h = zero-one (cc)
 
-value-few : (what : Numbers) (count : ℕ) (zs : List ℤ) (o : Option ℤ) (xs : List ℤ) → ltb (length zs) count ≡ true → numberValue what zs o ≡ goes xs →
+value-few : (rules : Rules) (what : Numbers) (count : ℕ) (zs : List ℤ) (o : Option ℤ) (xs : List ℤ) → ltb (length zs) count ≡ true → numberValue rules what zs o ≡ goes xs →
     Few count xs
-value-few what count zs none xs m e = zero-one (cc)
-value-few what count zs (some z) xs m e = go (inRange what z) e
+value-few rules what count zs none xs m e = zero-one (cc)
+value-few rules what count zs (some z) xs m e = go (inRange rules what z) e
   where
     go : (b : Bool) → cond b (goes (zs ++ (z ∷ []))) (stops (outside what)) ≡ goes xs → Few count xs
     go true h =
@@ -201,7 +201,7 @@ value-few what count zs (some z) xs m e = go (inRange what z) e
 numbers-kept : (rules : Rules) (what : Numbers) (count : ℕ) → Preserved (numberLayout rules what count) (Few count)
 numbers-kept rules what count = record {
   sizes = λ h l zs e. sizes-few count (twoWords (natural rules) (natural rules) (words l)) zs e;
-  later = λ zs l xs m p e. value-few what count zs (oneWord (integer rules) (words l)) xs m e;
+  later = λ zs l xs m p e. value-few rules what count zs (oneWord (integer rules) (words l)) xs m e;
 }
 
 -- Numbers that are read are as many as are asked for, and fill the output.

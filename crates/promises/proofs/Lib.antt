@@ -2,3 +2,4 @@ pub mod Listing
 pub mod Kept
 pub mod Rewritten
 pub mod Tidied
+pub mod HalfPoints

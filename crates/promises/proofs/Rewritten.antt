@@ -3,9 +3,12 @@ use Prim.Native.Nat.{ℕ}
 use mathlib.Core.Path.{_≡_, refl, sym, ap, _∙_}
 use mathlib.Core.Bool.{Bool, true, false, _||_, or-true}
 use mathlib.Core.List.{List, [], _∷_}
-use lib.IntN.{ℤ}
+use lib.IntN.{ℤ, pos}
+use lib.ListN.{getD}
+use lib.Signed.{_≤ℤ_}
+use Rattle.integers.proofs.Order.{between-true, le-between}
 use Rattle.graph.specs.declared.Fault.the-variants as Fault
-use Rattle.graph.specs.Limits.{mostEdges}
+use Rattle.graph.specs.Limits.{mostEdges, greatestPrice, greatestOldPrice}
 use Rattle.graph.specs.Refusal.{Outcome, yields, refuses}
 use Rattle.graph.specs.Graph.{Graph}
 use Rattle.graph.proofs.Passing.{zero-one, passes}
@@ -17,11 +20,12 @@ use Rattle.layout.specs.declared.Numbers.the-variants.{Bounds, Prices}
 use Rattle.layout.specs.Text.{bytes, onFirst, pieces, nonEmpty, lines, words, same, sameFolded, headerWords, header, unlines}
 use Rattle.layout.specs.Lines.{onLine, readLines, readText}
 use Rattle.layout.specs.GraphText.{readGraphBy, readGraph}
-use Rattle.layout.specs.NumberText.{numberLayout, numberReaderTests, readNumbersBy, readNumbers}
+use Rattle.layout.specs.NumberText.{inRange, numberLayout, numberReaderTests, readNumbersBy, readNumbers}
 use Rattle.layout.specs.SubgraphText.{subgraphLayout, subgraphReaderTests, readSubgraphBy, readSubgraph}
 use Rattle.layout.specs.Rewrite.{takes, takenAs, takenAsNumbers, taken, rewriteOutput}
 use Rattle.patterns.proofs.Texts.{text-passes-tests}
 use Rattle.patterns.proofs.Readers.{graph-read, plan-of-some-graph}
+use Rattle.patterns.proofs.Prices.{AlsoIn}
 use Rattle.patterns.proofs.Taken.{takes-some, numbers-taken, taken-numbers}
 use Rattle.rewriting.proofs.Written.{natural-written, integer-written}
 use Rattle.rewriting.proofs.Anew.{line-words, line-blanks, text-lines, text-ends, output-anew, output-line}
@@ -93,14 +97,23 @@ old-texts-rewritten = record {
       ap (readSubgraph g (g .edges)) (output-anew text (subgraph-old text g x e)) ∙ subgraph-anew g (g .edges) text x e;
 }
 
+-- A price of today that is not over 2,000,000 is one of the old rules.
+old-price : (z : ℤ) → inRange New Prices z ≡ true → z ≤ℤ pos greatestOldPrice → inRange Old Prices z ≡ true
+old-price z h l = le-between (between-true (pos 0) (pos greatestPrice) z h .0) l
+
+kept-numbers : (what : Numbers) (count : ℕ) (text : List ℕ) (zs : List ℤ) → AlsoIn New what Old what zs → readNumbers what count count text ≡ yields zs →
+    rewriteOutput text ≡ text
+kept-numbers what count text zs old e =
+    let s = numbers-same what count count text zs old e in
+    output-anew text (numbers-old text what count zs (s .0)) ∙ s .1
+
 pub new-texts-kept : NewTextsKept
 new-texts-kept = record {
   graph = λ text g e.
       let s = graph-same Field.Integer mostEdges mostEdges mostEdges text g e in
       output-anew text (graph-old text g (s .0)) ∙ s .1;
-  numbers = λ what count text zs e.
-      let s = numbers-same what count count text zs e in
-      output-anew text (numbers-old text what count zs (s .0)) ∙ s .1;
+  bounds = λ count text zs e. kept-numbers Bounds count text zs (λ k l h. h) e;
+  prices = λ count text zs e small. kept-numbers Prices count text zs (λ k l h. old-price (getD zs k (pos 0)) h (small k l)) e;
   subgraph = λ g text x e.
       let s = subgraph-same g (g .edges) text x e in
       output-anew text (subgraph-old text g x (s .0)) ∙ s .1;

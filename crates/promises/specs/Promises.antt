@@ -7,33 +7,34 @@ use mathlib.Core.Logic.{_≢_, _⊎_, _↔_}
 use mathlib.Core.Bool.{true}
 use mathlib.Core.List.{List, [], _∷_, map}
 use mathlib.Core.Option.{some}
-use lib.IntN.{ℤ, pos}
+use lib.IntN.{ℤ, pos, _-ℤ_, _*ℤ_}
 use lib.ListN.{length, getD, replicate, take, drop}
-use lib.Signed.{_≤ℤ_}
-use Rattle.integers.specs.Sum.{is}
+use lib.Signed.{_≤ℤ_, leZ}
+use Rattle.integers.specs.Sum.{sumℤ, is}
 use Rattle.graph.specs.declared.Fault.{Fault}
 use Rattle.graph.specs.declared.Fault.the-variants.{LentLength}
-use Rattle.graph.specs.Limits.{mostEdges, mostNumbers, mostSets, vertexWords, edgeWords}
+use Rattle.graph.specs.Limits.{mostEdges, mostNumbers, mostSets, vertexWords, edgeWords, greatestSolverPrice, greatestOldPrice}
 use Rattle.graph.specs.Refusal.{numberOf, Outcome, yields, told, refusedWith, Test, once, passing, output}
 use Rattle.graph.specs.Graph.{Graph, vertices, firstEnd, secondEnd, weightAt, upTo, priceInRange}
-use Rattle.graph.specs.Subgraph.{Feasible, Optimal, weightOf, lacks}
+use Rattle.graph.specs.Subgraph.{markAt, Feasible, Optimal, weightOf, lacks}
 use Rattle.graph.specs.Tests.{graphLengths, graphTests, boundTest}
 use Rattle.graph.specs.Index.{buildTests, buildIndex, indexTests, testIndex}
 use Rattle.layout.specs.declared.Numbers.{Numbers}
+use Rattle.layout.specs.declared.Numbers.the-variants as Numbers
 use Rattle.layout.specs.declared.Rules.{Rules}
 use Rattle.layout.specs.declared.Rules.the-variants.{New, Old}
 use Rattle.layout.specs.declared.Field.the-variants as Field
 use Rattle.layout.specs.Text.{bytes, newline, blank, lines, words, natural, integer, signed, unlines, textFits}
 use Rattle.layout.specs.Lines.{readText}
 use Rattle.layout.specs.GraphText.{graphLayout, graphReaderTests, readGraphBy, readGraph, graphText}
-use Rattle.layout.specs.NumberText.{numberLayout, numberReaderTests, readNumbersBy, readNumbers}
+use Rattle.layout.specs.NumberText.{inRange, numberLayout, numberReaderTests, readNumbersBy, readNumbers}
 use Rattle.layout.specs.SubgraphText.{subgraphLayout, subgraphReaderTests, readSubgraphBy, readSubgraph, writerTests, writeSubgraph}
 use Rattle.layout.specs.TidyText.{tidyTests, tidyGraph}
 use Rattle.layout.specs.Rewrite.{ending, wordAnew, lineAnew, linesAnew, textAnew, rewriteOutput}
 use Rattle.dual.specs.declared.Measures.{Measures}
 use Rattle.dual.specs.Prices.{Prices, vertexPrice, edgePrice, setPrice}
 use Rattle.dual.specs.Sets.{keepsRules}
-use Rattle.dual.specs.Gap.{coverOf}
+use Rattle.dual.specs.Gap.{halfPoints, worthAt, coverOf, covered, totalOf, gapOf, vertexSlack, setSlack, edgeSlack, coverSlack}
 use Rattle.dual.specs.Measure.{measure, measureTests}
 use Rattle.dual.specs.Solve.{Lent, solverTests, solve, withoutSets, SolverPrice, Zero, Left}
 use Rattle.duality.specs.Meaning.{Meaning}
@@ -106,12 +107,12 @@ pub record RefusedJustWhereListed : Type 0 where
 
 -- ---- Demand 3
 
--- What the solver's prices show: they are in range and cover every edge, and a feasible subgraph y, measured against them without odd sets, is
+-- What the solver's prices show: they are even, in range and cover every edge, and a feasible subgraph y, measured against them without odd sets, is
 -- accepted and has the solver's weight exactly where its gap is 0.
 pub record Certifies (g : Graph) (bound : List ℤ) (x : List ℕ) (vertex edge : List ℤ) : Type 0 where
   pub vertexRange : (v : ℕ) → v < vertices g → SolverPrice (vertexPrice (withoutSets vertex edge) v)
   pub edgeRange : (e : ℕ) → e < g .edges → SolverPrice (edgePrice (withoutSets vertex edge) e)
-  pub covering : (e : ℕ) → e < g .edges → weightAt g e ≤ℤ coverOf g (withoutSets vertex edge) e
+  pub covering : (e : ℕ) → e < g .edges → worthAt g e ≤ℤ coverOf g (withoutSets vertex edge) e
   pub exact : (y : List ℕ) → Feasible g bound y →
       (M : Measures) × (measure g bound y (withoutSets vertex edge) ≡ yields M) × ((M .gap ≡ pos 0) ↔ (weightOf g y ≡ weightOf g x))
 
@@ -139,10 +140,10 @@ pub record Covers (g : Graph) (bound : List ℤ) (P : Prices) : Type 0 where
   pub setRange : (s : ℕ) → s < P .sets → priceInRange (setPrice P s) ≡ true
   pub fewSets : P .sets ≤ mostSets
   pub rules : (s : ℕ) → s < P .sets → keepsRules g bound P s ≡ true
-  pub covering : (e : ℕ) → e < g .edges → weightAt g e ≤ℤ coverOf g P e
+  pub covering : (e : ℕ) → e < g .edges → worthAt g e ≤ℤ coverOf g P e
 
--- "On either sort of sheet the gap and leftovers are as defined, none below 0, they add up to the gap, and the gap is at least what the plan lacks":
--- a feasible subgraph is measured against such prices, and the numbers mean what they should.
+-- "On either sort of sheet the gap and leftovers are as defined, none below 0, they add up to the gap, and the gap is at least what the plan lacks", which
+-- request U5 counts in half points, so that it is at least twice what the plan lacks: a feasible subgraph is measured against such prices, and the numbers mean what they should.
 abbrev pub MeasuredMeans : Type 0
 MeasuredMeans =
     (g : Graph) (bound : List ℤ) (x : List ℕ) (P : Prices) → Accepts g bound → Feasible g bound x → Covers g bound P →
@@ -200,10 +201,12 @@ pub record OldTextsRewritten : Type 0 where
       readNumbers what count count (rewriteOutput text) ≡ yields zs
   pub subgraph : (g : Graph) (text x : List ℕ) → readSubgraphBy Old g (g .edges) text ≡ yields x → readSubgraph g (g .edges) (rewriteOutput text) ≡ yields x
 
--- What the new rules take is rewritten to itself.
+-- What the new rules take is rewritten to itself; prices where none is over 2,000,000, since the old rules, by which a text is rewritten, take no more.
 pub record NewTextsKept : Type 0 where
   pub graph : (text : List ℕ) (g : Graph) → readGraph mostEdges mostEdges mostEdges text ≡ yields g → rewriteOutput text ≡ text
-  pub numbers : (what : Numbers) (count : ℕ) (text : List ℕ) (zs : List ℤ) → readNumbers what count count text ≡ yields zs → rewriteOutput text ≡ text
+  pub bounds : (count : ℕ) (text : List ℕ) (zs : List ℤ) → readNumbers Numbers.Bounds count count text ≡ yields zs → rewriteOutput text ≡ text
+  pub prices : (count : ℕ) (text : List ℕ) (zs : List ℤ) → readNumbers Numbers.Prices count count text ≡ yields zs →
+      ((k : ℕ) → k < length zs → getD zs k (pos 0) ≤ℤ pos greatestOldPrice) → rewriteOutput text ≡ text
   pub subgraph : (g : Graph) (text x : List ℕ) → readSubgraph g (g .edges) text ≡ yields x → rewriteOutput text ≡ text
 
 -- "And copies all other bytes": a text anew has the text's lines, of which those before the size line are the same, and each of the others has its words
@@ -271,3 +274,58 @@ abbrev pub PlansKept : Type 0
 PlansKept =
     (sheet plan : List ℕ) (g h : Graph) → ReadAs sheet g → ReadAs (tidyOutput sheet) h →
     ReadAlike g h (readSubgraph g (g .edges) plan) (readSubgraph h (h .edges) plan)
+
+-- ---- Request U5
+
+-- "A pair is covered if its prices reach twice its merit", "gap = total - 2 times merit": so it is where the measuring call yields its numbers, of which the
+-- weight is in points.
+pub record CountedInHalfPoints : Type 0 where
+  pub reached : (g : Graph) (bound : List ℤ) (x : List ℕ) (P : Prices) (M : Measures) → measure g bound x P ≡ yields M →
+      (e : ℕ) → e < g .edges → (pos 2 *ℤ weightAt g e) ≤ℤ coverOf g P e
+  pub gap : (g : Graph) (bound : List ℤ) (x : List ℕ) (P : Prices) (M : Measures) → measure g bound x P ≡ yields M →
+      (M .weight ≡ weightOf g x) × (M .gap ≡ M .total -ℤ pos 2 *ℤ M .weight)
+
+-- "The solver's prices are even, 0 to 2,000,000": a price z is twice a natural number, and not over 2,000,000.
+abbrev pub EvenPrice : ℤ → Type 0
+EvenPrice z = (k : ℕ) × (z ≡ pos (2 * k)) × (2 * k ≤ greatestSolverPrice)
+
+abbrev pub SolverPricesEven : Type 0
+SolverPricesEven =
+    (g : Graph) (bound : List ℤ) (index : List ℕ) (lent : Lent) (x : List ℕ) (vertex edge workspace : List ℤ) → Left g bound index lent x vertex edge workspace →
+    solve g bound index lent ≡ yields tt →
+    ((v : ℕ) → v < vertices g → EvenPrice (getD vertex v (pos 0))) × ((e : ℕ) → e < g .edges → EvenPrice (getD edge e (pos 0)))
+
+-- "The gap sentence of the mission now compares with twice what the plan lacks": the gap is at least that, so that a gap of 0 or 1 shows a plan best, and
+-- against the solver's prices it is just that.
+pub record TwiceWhatIsLacking : Type 0 where
+  pub least : (g : Graph) (bound : List ℤ) (x : List ℕ) (P : Prices) (M : Measures) → measure g bound x P ≡ yields M →
+      (y : List ℕ) → Optimal g bound y → (pos 2 *ℤ lacks g y x) ≤ℤ M .gap
+  pub best : (g : Graph) (bound : List ℤ) (x : List ℕ) (P : Prices) (M : Measures) → measure g bound x P ≡ yields M →
+      M .gap ≤ℤ pos 1 → Optimal g bound x
+  pub exact : (g : Graph) (bound : List ℤ) (index : List ℕ) (lent : Lent) (x : List ℕ) (vertex edge workspace : List ℤ) → Left g bound index lent x vertex edge workspace →
+      solve g bound index lent ≡ yields tt → (y : List ℕ) → Feasible g bound y →
+      (M : Measures) × (measure g bound y (withoutSets vertex edge) ≡ yields M) × (M .gap ≡ pos 2 *ℤ lacks g x y)
+
+-- A stored price sheet, whose prices are in points, doubled.
+abbrev pub doubled : Prices → Prices
+doubled P = record {
+  vertex = map halfPoints (P .vertex);
+  edge = map halfPoints (P .edge);
+  sets = P .sets;
+  set = map halfPoints (P .set);
+  setVertices = P .setVertices;
+  setEdges = P .setEdges;
+}
+
+-- "Owners double stored price texts; prices, totals, leftovers and gaps .. double too": a price of the old range, doubled, is in range; doubled prices cover
+-- an edge just where the prices in points reached its weight, and their total, the gap and the slacks are those in points, doubled.
+pub record StoredPricesDoubled : Type 0 where
+  pub range : (z : ℤ) → inRange Old Numbers.Prices z ≡ true → priceInRange (halfPoints z) ≡ true
+  pub cover : (g : Graph) (P : Prices) (e : ℕ) → covered g (doubled P) e ≡ leZ (weightAt g e) (coverOf g P e)
+  pub total : (g : Graph) (bound : List ℤ) (P : Prices) → totalOf g bound (doubled P) ≡ halfPoints (totalOf g bound P)
+  pub gap : (g : Graph) (bound : List ℤ) (x : List ℕ) (P : Prices) → gapOf g bound x (doubled P) ≡ halfPoints (totalOf g bound P -ℤ weightOf g x)
+  pub ofVertices : (g : Graph) (bound : List ℤ) (x : List ℕ) (P : Prices) → vertexSlack g bound x (doubled P) ≡ halfPoints (vertexSlack g bound x P)
+  pub ofSets : (g : Graph) (bound : List ℤ) (x : List ℕ) (P : Prices) → setSlack g bound x (doubled P) ≡ halfPoints (setSlack g bound x P)
+  pub ofEdges : (g : Graph) (x : List ℕ) (P : Prices) → edgeSlack g x (doubled P) ≡ halfPoints (edgeSlack g x P)
+  pub ofCover : (g : Graph) (x : List ℕ) (P : Prices) →
+      coverSlack g x (doubled P) ≡ halfPoints (sumℤ (g .edges) (λ e. pos (markAt x e) *ℤ (coverOf g P e -ℤ weightAt g e)))

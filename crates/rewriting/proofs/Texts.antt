@@ -1,4 +1,5 @@
--- Each sort of text: what the old rules take, the new ones take anew, with the same result; and what the new ones take is left as it is.
+-- Each sort of text: what the old rules take, the new ones take anew, with the same result; and what the new ones take is left as it is, where its numbers
+-- are in the old range.
 use mathlib.Core.Path.{_≡_, refl, sym, ap, _∙_}
 use mathlib.Core.Bool.{Bool, true, false, cond, not, _&&_}
 use mathlib.Core.List.{List, [], _∷_, _++_}
@@ -7,7 +8,7 @@ use Prim.Native.Nat.{ℕ}
 use native.Mathlib.Omega.{arith}
 use lib.Dec.{eqb}
 use lib.IntN.{ℤ, pos}
-use lib.ListN.{length}
+use lib.ListN.{length, getD}
 use borrow.Author.Tests.{le-leb, leb-true, not-true}
 use Rattle.graph.specs.declared.Kind.{Kind}
 use Rattle.graph.specs.declared.Kind.the-variants.{Bipartite, General}
@@ -18,6 +19,7 @@ use Rattle.graph.specs.Graph.{Graph, upTo}
 use Rattle.graph.specs.Tests.{graphLengths, graphTests}
 use Rattle.graph.proofs.Passing.{zero-one, passes, pass, passes-split, passes-join}
 use Rattle.graph.proofs.Ranges.{both}
+use Rattle.layout.specs.declared.Rules.{Rules}
 use Rattle.layout.specs.declared.Rules.the-variants.{New, Old}
 use Rattle.layout.specs.declared.Field.{Field}
 use Rattle.layout.specs.declared.Field.the-variants as Field
@@ -25,9 +27,10 @@ use Rattle.layout.specs.declared.Numbers.{Numbers}
 use Rattle.layout.specs.Text.{bytes, blank, onFirst, pieces, nonEmpty, words, same, headerWords, header, commentLine, textFits}
 use Rattle.layout.specs.Lines.{Step, goes, stops, Layout, readText}
 use Rattle.layout.specs.GraphText.{fieldWord, graphHeader, edgeOn, graphSizes, graphEdge, graphLayout, readGraphBy}
-use Rattle.layout.specs.NumberText.{numberHeader, numberSizes, numberValue, numberLayout, readNumbersBy}
+use Rattle.layout.specs.NumberText.{numberHeader, numberSizes, numberValue, numberReaderTests, readNumbersBy}
 use Rattle.layout.specs.SubgraphText.{subgraphKind, subgraphHeader, subgraphSizes, subgraphEdge, subgraphLayout, readSubgraphBy}
 use Rattle.layout.specs.Rewrite.{lineAnew, textAnew}
+use Rattle.patterns.proofs.Prices.{rangedLayout, AlsoIn, numbers-alike, old-is-new}
 use Rattle.rewriting.proofs.Anew.{line-words, line-kept, text-length}
 use Rattle.rewriting.proofs.Kept.{naturals, integers, WordsAlike, one-word, two-words, three-words, Follows, read-anew, read-same}
 
@@ -122,14 +125,15 @@ graph-follows field = record {
         one-of-two (bytes "matrix" ∷ bytes "coordinate" ∷ fieldWord field ∷ bytes "general" ∷ [])
         (bytes "matrix" ∷ bytes "coordinate" ∷ fieldWord field ∷ bytes "symmetric" ∷ []) l (goes Bipartite) (goes General) (stops Header) (goes h) e stops-not
 
-pub numbers-follow : (what : Numbers) (count : ℕ) → Follows (numberLayout Old what count) (numberLayout New what count)
-numbers-follow what count = record {
+-- The range stays that of the same rules.
+pub numbers-follow : (ranges : Rules) (what : Numbers) (count : ℕ) → Follows (rangedLayout Old ranges what count) (rangedLayout New ranges what count)
+numbers-follow ranges what count = record {
   header = λ l. refl;
   headed = headed;
   size = λ h l b e. line-anew (two-words naturals naturals) (numberSizes count) b stops-not l e;
-  later = λ zs l c e. line-anew (one-word integers) (numberValue what zs) c stops-not l e;
+  later = λ zs l c e. line-anew (one-word integers) (numberValue ranges what zs) c stops-not l e;
   sizeSame = λ h l b e. line-same (two-words naturals naturals) (numberSizes count) b stops-not l e;
-  laterSame = λ zs l c e. line-same (one-word integers) (numberValue what zs) c stops-not l e;
+  laterSame = λ zs l c e. line-same (one-word integers) (numberValue ranges what zs) c stops-not l e;
   more = λ b. refl;
   result = λ b. refl;
 }
@@ -206,11 +210,17 @@ module _ (what : Numbers) (count n : ℕ) (text : List ℕ) (zs : List ℤ) wher
 
   pub numbers-anew : readNumbersBy Old what count n text ≡ yields zs → readNumbersBy New what count n (textAnew text) ≡ yields zs
   unfolding readNumbersBy
-  numbers-anew e = reader-anew (numbers-follow what count) numbersLent text zs e
+  numbers-anew e =
+      numbers-alike New Old New what what count (numberReaderTests count n (textAnew text)) (textAnew text) zs (λ k l. old-is-new what (getD zs k (pos 0)))
+      (reader-anew (numbers-follow Old what count) numbersLent text zs e)
 
-  pub numbers-same : readNumbersBy New what count n text ≡ yields zs → (readNumbersBy Old what count n text ≡ yields zs) × (textAnew text ≡ text)
+  -- Numbers in the old range.
+  pub numbers-same : AlsoIn New what Old what zs → readNumbersBy New what count n text ≡ yields zs →
+      (readNumbersBy Old what count n text ≡ yields zs) × (textAnew text ≡ text)
   unfolding readNumbersBy
-  numbers-same e = reader-same (numbers-follow what count) numbersLent text zs e
+  numbers-same w e =
+      reader-same (numbers-follow Old what count) numbersLent text zs
+      (numbers-alike New New Old what what count (numberReaderTests count n text) text zs w e)
 
 module _ (g : Graph) (n : ℕ) (text : List ℕ) (x : List ℕ) where
   abbrev subgraphLent : List Test

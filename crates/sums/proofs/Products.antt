@@ -1,5 +1,5 @@
 -- The laws of products: a number taken a count of times, or by its mark, and a price times what is left of a limit.
-use Prim.Native.Nat.{ℕ, _+_, _^_, _≤_}
+use Prim.Native.Nat.{ℕ, _+_, _*_, _^_, _≤_}
 use mathlib.Core.Path.{_≡_, sym, ap, ap₂, _∙_, subst}
 use native.Mathlib.Omega.{arith}
 use native.Mathlib.Nat.{mul-le-mul-right, le-trans}
@@ -7,6 +7,7 @@ use lib.IntN.{ℤ, pos, negℤ, _+ℤ_, _-ℤ_, _*ℤ_, +ℤ-invl, *ℤ-zero, *�
 use Rattle.integers.specs.Integer.{up, dn, Within}
 use Rattle.integers.proofs.Order.{order, up-add, up-neg, within-times, within-diff}
 use Rattle.integers.proofs.Diff.{times-add}
+use Rattle.dual.specs.Gap.{halfPoints}
 use Rattle.sums.proofs.Machine.{Fits64, held, held-is, held-within, held-both}
 
 neg-of : (x y : ℤ) → x +ℤ y ≡ pos 0 → x ≡ negℤ y
@@ -34,6 +35,13 @@ scaled r x k hr hx l c p e =
       held-is r hr ∙ s ∙ ap₂ _*ℤ_ c (p .0),
       held-within r hr (subst (λ (z : ℤ). Within (2 ^ 47) z) (sym s) (within-scaled k x l (p .1))) (omega arith),
     )
+
+-- r is x, which is v, in half points.
+pub worth-is : (x r : ℤ) {v : ℤ} → Fits64 x → (x ≡ v) × Within (2 ^ 31) x → (r ≡ halfPoints (held x)) × Within (2 * (up (held x) + dn (held x))) r →
+    (r ≡ halfPoints v) × Within (2 ^ 32) r
+worth-is x r hx p q =
+    let e = held-is x hx in
+    (q .0 ∙ ap halfPoints (e ∙ p .0), omega (arith, q .1, p .1, ap up e, ap dn e))
 
 -- r is x, which is v, by its mark m.
 pub taken : (r x : ℤ) (m : ℕ) {v : ℤ} {n : ℕ} → Fits64 r → Fits64 x → (x ≡ v) × Within n x → n ≤ 2 ^ 48 →

@@ -21,7 +21,7 @@ ghost use Rattle.graph.specs.Refusal.{lowest};
 ghost use Rattle.graph.specs.Subgraph.{markAt};
 ghost use Rattle.graph.specs.Passed.{Sound, Bounded, MarksHold};
 ghost use Rattle.dual.specs.Prices.{pricesOf, one};
-ghost use Rattle.dual.specs.Gap.{coverOf};
+ghost use Rattle.dual.specs.Gap.{halfPoints, coverOf};
 ghost use Rattle.checks.specs.Checks.{lowestSays};
 ghost use Rattle.sets.specs.Words.{coversBy};
 ghost use Rattle.sums.specs.Lent.{PricesLent};
@@ -296,15 +296,17 @@ pub fn cover_table(
     table
 }
 
-// The lowest edge whose weight is over its cover.
+// The lowest edge whose worth, its weight in half points, is over its cover.
 pub fn lowest_uncovered(edges: u32, weight: &[i32], cover: [i64; MOST_EDGES]) -> Lowest
     requires { ⌜ (edges ≤ mostEdges) × (length (now weight) ≡ edges) ⌝ }
-    ensures { λ r. ⌜ lowestSays r ≡ lowest edges (λ e. leZ (getD (now (weight .entry)) e (pos 0)) (getD cover e (pos 0))) ⌝ }
+    ensures { λ r. ⌜ lowestSays r ≡ lowest edges (λ e. leZ (halfPoints (getD (now (weight .entry)) e (pos 0))) (getD cover e (pos 0))) ⌝ }
 {
     let m = edges as usize;
     let mut e = 0;
     while e < m {
-        if integers::at_most(integers::element(weight, e), cover[e]) {
+        let own = integers::element(weight, e);
+        let worth = dual::half_points(own);
+        if integers::at_most(worth, cover[e]) {
             e += 1;
         } else {
             return Lowest::At(e);
@@ -313,13 +315,15 @@ pub fn lowest_uncovered(edges: u32, weight: &[i32], cover: [i64; MOST_EDGES]) ->
     Lowest::Nothing
 }
 
-// What an edge's cover exceeds its weight by where it is chosen, else 0. The weight may be negative.
+// What an edge's cover exceeds its worth by where it is chosen, else 0. The weight may be negative.
 fn excess(cover: i64, weight: &[i32], chosen: &[u8], e: usize) -> i64
     requires { ⌜ Within (2 ^ 36) cover ⌝ }
     requires { ⌜ (e < length (now weight)) × (e < length (now chosen)) × (markAt (now chosen) e ≤ 1) ⌝ }
-    ensures { λ r. ⌜ (r ≡ pos (markAt (now (chosen .entry)) e) *ℤ (cover -ℤ getD (now (weight .entry)) e (pos 0))) × Within (2 ^ 48) r ⌝ }
+    ensures { λ r. ⌜ (r ≡ pos (markAt (now (chosen .entry)) e) *ℤ (cover -ℤ halfPoints (getD (now (weight .entry)) e (pos 0)))) × Within (2 ^ 48) r ⌝ }
 {
-    let over = integers::subtract(cover, integers::element(weight, e));
+    let own = integers::element(weight, e);
+    let worth = dual::half_points(own);
+    let over = integers::subtract(cover, worth);
     integers::if_chosen(chosen[e], over)
 }
 
@@ -327,7 +331,7 @@ fn excess(cover: i64, weight: &[i32], chosen: &[u8], e: usize) -> i64
 pub fn cover_slack(edges: u32, cover: [i64; MOST_EDGES], weight: &[i32], chosen: &[u8]) -> i64
     requires { ⌜ (edges ≤ mostEdges) × (length (now weight) ≡ edges) × MarksHold edges (now chosen) ⌝ }
     requires { ⌜ ((e : ℕ) → e < edges → Within (2 ^ 36) (getD cover e (pos 0))) ⌝ }
-    ensures { λ r. ⌜ (r ≡ sumℤ edges (λ e. pos (markAt (now (chosen .entry)) e) *ℤ (getD cover e (pos 0) -ℤ getD (now (weight .entry)) e (pos 0)))) × Within (2 ^ 58) r ⌝ }
+    ensures { λ r. ⌜ (r ≡ sumℤ edges (λ e. pos (markAt (now (chosen .entry)) e) *ℤ (getD cover e (pos 0) -ℤ halfPoints (getD (now (weight .entry)) e (pos 0))))) × Within (2 ^ 58) r ⌝ }
 {
     let m = edges as usize;
     let mut total = 0;

@@ -1,5 +1,5 @@
--- The state of the primal-dual method (document 001, section 3.5). Prices and weights are naturals here: a price is kept one level up, where the
--- level is 1,000,000, and a weight two levels up, so that an edge's slack is its ends' prices minus its weight.
+-- The state of the primal-dual method (document 001, section 3.5). Prices and weights are naturals here, in points: a price is kept one level up, where
+-- the level is 1,000,000, and a weight two levels up, so that an edge's slack is its ends' prices minus its weight.
 use Prim.Native.Nat.{ℕ, _+_, _*_, _≤_, _<_}
 use mathlib.Core.Path.{_≡_}
 use mathlib.Core.Logic.{_≢_, _⊎_}

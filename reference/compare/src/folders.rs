@@ -54,8 +54,8 @@ fn marks_and_prices(random: &mut Random, g: &Graph, bound: &[i32]) -> (Vec<u8>, 
         _ => feasible(random, g, bound),
     };
     let extreme = random.below(20) == 0;
-    let vertex = prices(random, bound.len(), 600_000, extreme);
-    let mut edge = prices(random, m, 300_000, extreme);
+    let vertex = prices(random, bound.len(), 1_200_000, extreme);
+    let mut edge = prices(random, m, 600_000, extreme);
     if random.below(6) > 0 {
         cover(g, &vertex, &mut edge);
     }
@@ -101,7 +101,7 @@ impl Content {
             2 => self.named.spoil(random),
             _ => {
                 let at = random.below(self.price.len() as u64) as usize;
-                self.price[at] = random.pick(&[-1, 2_000_001, 999_999_999]);
+                self.price[at] = random.pick(&[-1, 4_000_001, 999_999_999]);
             }
         }
     }

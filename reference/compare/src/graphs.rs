@@ -1,6 +1,7 @@
 //! Graphs as they are lent to the calls on numbers, right and now and then wrong.
 
-use reference::{build_index, index_length, Graph, Kind, Random};
+use reference::graph::MOST_PRICE;
+use reference::{build_index, half_points, index_length, Graph, Kind, Random};
 
 /// The numbers of a graph, of which something may be wrong.
 #[derive(Clone, Debug)]
@@ -318,10 +319,10 @@ pub fn feasible(random: &mut Random, g: &Graph, bound: &[i32]) -> Vec<u8> {
     chosen
 }
 
-/// Prices from 0 to `most`, or all of them the largest that is taken.
+/// Prices from 0 to `most` half points, or all of them the largest that is taken.
 pub fn prices(random: &mut Random, count: usize, most: i32, extreme: bool) -> Vec<i32> {
     let mut price = || match extreme {
-        true => 2_000_000,
+        true => MOST_PRICE,
         false => random.between(0, most),
     };
     (0..count).map(|_| price()).collect()
@@ -331,7 +332,7 @@ pub fn prices(random: &mut Random, count: usize, most: i32, extreme: bool) -> Ve
 pub fn cover(g: &Graph, vertex: &[i32], edge: &mut [i32]) {
     for (e, price) in edge.iter_mut().enumerate() {
         let (a, b) = g.ends(e);
-        let lacking = g.weight[e] - vertex[a] - vertex[b] - *price;
+        let lacking = half_points(g.weight[e]) - vertex[a] - vertex[b] - *price;
         *price += lacking.max(0);
     }
 }

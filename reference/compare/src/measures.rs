@@ -3,7 +3,9 @@
 use crate::graphs::{bounds, cover, feasible, length, prices, Lent};
 use crate::guard::Guarded;
 use crate::proved;
-use crate::tally::Tally;
+use crate::situations::other;
+use crate::tally::{Seen, Tally};
+use reference::brute::weight_of;
 use reference::{feasible_subgraphs, largest_weight, Graph, Measures, Random, Refusal};
 
 /// A measuring call, the proved one or the separately written one.
@@ -18,6 +20,11 @@ pub type Measuring = fn(
     &[u64],
     &[u64],
 ) -> Result<Measures, Refusal>;
+
+/// What is seen of measured prices; odd ones are those of vertices, edges and sets.
+const ODD_PRICES: [&str; 3] = ["odd vertex prices", "odd edge prices", "odd set prices"];
+const LARGEST_PRICES: &str = "prices of 4,000,000";
+const ODD_GAP: &str = "odd gaps";
 
 /// Everything that is lent to a measuring.
 #[derive(Clone, Debug)]
@@ -35,6 +42,13 @@ struct Sheet {
 
 fn flip(words: &mut [u64], bit: usize) {
     words[bit / 64] ^= 1 << (bit % 64);
+}
+
+/// Prices fall by half a point, so that an edge that was covered just so is not.
+fn lower(prices: &mut [i32]) {
+    for price in prices {
+        *price = (*price - 1).max(0);
+    }
 }
 
 /// One odd set of a right graph: mostly one that keeps the rules.
@@ -71,8 +85,8 @@ impl Sheet {
         let bound = bounds(random, n);
         let chosen = feasible(random, &g, &bound);
         let extreme = random.below(20) == 0;
-        let vertex = prices(random, n, 600_000, extreme);
-        let mut edge = prices(random, m, 300_000, extreme);
+        let vertex = prices(random, n, 1_200_000, extreme);
+        let mut edge = prices(random, m, 600_000, extreme);
         let sets = match random.below(40) {
             0 => 16,
             1 => 17,
@@ -85,7 +99,7 @@ impl Sheet {
             vertex: vertex.clone(),
             edge: Vec::new(),
             sets,
-            price: prices(random, sets as usize, 1000, extreme),
+            price: prices(random, sets as usize, 2000, extreme),
             set_vertices: Vec::new(),
             set_edges: Vec::new(),
             graph: graph.clone(),
@@ -106,17 +120,17 @@ impl Sheet {
     fn spoil(&mut self, random: &mut Random) {
         let bit =
             |random: &mut Random, words: usize| random.below(64 * words.max(1) as u64) as usize;
-        match random.below(12) {
+        match random.below(13) {
             0 => self.graph.spoil(random),
             1 => self.sets = random.pick(&[0, 1, 16, 17, u32::MAX, 1 << 31, 1 << 28]),
             2 if !self.bound.is_empty() => self.bound[0] = random.pick(&[-1, 65, i32::MIN]),
             3 if !self.chosen.is_empty() => self.chosen[0] = random.pick(&[2, 255]),
             4 => self.chosen.fill(1),
-            5 if !self.vertex.is_empty() => self.vertex[0] = random.pick(&[-1, 2_000_001]),
+            5 if !self.vertex.is_empty() => self.vertex[0] = random.pick(&[-1, 4_000_001]),
             6 if !self.edge.is_empty() => {
-                *self.edge.last_mut().unwrap() = random.pick(&[-1, 2_000_001])
+                *self.edge.last_mut().unwrap() = random.pick(&[-1, 4_000_001])
             }
-            7 if !self.price.is_empty() => self.price[0] = random.pick(&[-1, 2_000_001]),
+            7 if !self.price.is_empty() => self.price[0] = random.pick(&[-1, 4_000_001]),
             8 if !self.set_vertices.is_empty() => {
                 let at = bit(random, self.set_vertices.len());
                 flip(&mut self.set_vertices, at);
@@ -129,21 +143,42 @@ impl Sheet {
                 let long = length(random, self.set_edges.len());
                 self.set_edges.resize(long, 0);
             }
+            11 => lower(&mut self.edge),
             _ => {
                 let long = length(random, self.vertex.len());
                 self.vertex.resize(long, 0);
             }
         }
     }
+
+    /// What an answer for it shows.
+    fn seen(&self, answer: &Result<Measures, Refusal>) -> Vec<Seen> {
+        let mut seen = vec![Seen::of(answer)];
+        if let Ok(numbers) = answer {
+            let prices = [&self.vertex, &self.edge, &self.price];
+            for (prices, odd) in prices.iter().zip(ODD_PRICES) {
+                if prices.iter().any(|price| price % 2 == 1) {
+                    seen.push(other(odd));
+                }
+            }
+            if prices.iter().any(|prices| prices.contains(&4_000_000)) {
+                seen.push(other(LARGEST_PRICES));
+            }
+            if numbers.gap % 2 == 1 {
+                seen.push(other(ODD_GAP));
+            }
+        }
+        seen
+    }
 }
 
-/// On a small graph every feasible subgraph is tried: the gap is at least what it lacks.
+/// On a small graph every feasible subgraph is tried: the gap is at least twice what it lacks.
 fn lacks_at_most(g: &Graph, bound: &[i32], gap: impl Fn(&[u8]) -> i64) -> bool {
     if g.edges > 8 {
         return true;
     }
     let largest = largest_weight(g, bound);
-    feasible_subgraphs(g, bound).all(|x| largest - reference::brute::weight_of(g, &x) <= gap(&x))
+    feasible_subgraphs(g, bound).all(|x| 2 * (largest - weight_of(g, &x)) <= gap(&x))
 }
 
 fn compare_one(random: &mut Random, tally: &mut Tally) {
@@ -187,9 +222,10 @@ fn compare_one(random: &mut Random, tally: &mut Tally) {
             && m.edges >= 0
             && m.cover >= 0
             && m.vertices + m.sets + m.edges + m.cover == m.gap
+            && m.total - 2 * m.weight == m.gap
             && lacks_at_most(&g, &sheet.bound, |x| measured(x).unwrap().gap);
     }
-    tally.count(&expected, agreed, || {
+    tally.note(&sheet.seen(&expected), agreed, || {
         format!("{expected:?} {proved:?} {sheet:?}")
     });
 }
@@ -201,5 +237,8 @@ pub fn compare(seed: u64, count: u64) -> Vec<bool> {
     for _ in 0..count {
         compare_one(&mut random, &mut tally);
     }
-    vec![tally.report(count, &[4, 6, 7, 8, 9, 10, 11, 12, 13, 14, 15])]
+    let mut demanded = vec![Seen::Result, other(LARGEST_PRICES), other(ODD_GAP)];
+    demanded.extend(ODD_PRICES.map(other));
+    demanded.extend([4, 6, 7, 8, 9, 10, 11, 12, 13, 14, 15].map(Seen::Refusal));
+    vec![tally.report_all(count, &demanded)]
 }

@@ -8,10 +8,12 @@ use crate::readings::Readings;
 use crate::situations::{other, sort_of_graph, unusual, UNUSUAL};
 use crate::sorts::{Content, Sort};
 use crate::tally::{Note, Seen};
+use reference::rewrite::CANNOT_READ;
 use reference::Kind;
 
 const UNCHANGED: &str = "nothing to rewrite";
 const OTHERWISE: &str = "taken, but as prices or of another graph";
+const BEYOND_OLD: &str = "cannot read, but the number reader takes it";
 
 const ONE_FORM: &str = "rewrite, one number in each form";
 
@@ -32,8 +34,8 @@ fn name_of(sort: Sort) -> String {
     format!("rewrite, {}", sort.words())
 }
 
-/// What a text of a sort shows. `old` says how the old rules read it.
-fn of_sort(content: &Content, old: &Readings, taken: bool, unchanged: bool) -> Note {
+/// What a text of a sort shows. `old` and `new` say how the old and the new rules read it.
+fn of_sort(content: &Content, [old, new]: [&Readings; 2], taken: bool, unchanged: bool) -> Note {
     let drawn = old.seen(content.sort);
     let mut seen = Vec::new();
     if taken && drawn == Seen::Result {
@@ -47,6 +49,9 @@ fn of_sort(content: &Content, old: &Readings, taken: bool, unchanged: bool) -> N
         seen.push(other(OTHERWISE));
     } else {
         seen.push(drawn);
+        if new.seen(content.sort) == Seen::Result {
+            seen.push(other(BEYOND_OLD));
+        }
     }
     (name_of(content.sort), seen)
 }
@@ -100,12 +105,13 @@ fn forms(text: &[u8], rewritten: &[u8]) -> Vec<Seen> {
     seen
 }
 
-/// What a text shows. `old` says how the old rules read it, `taken` that they take it.
-pub fn notes(one: &OldText, old: &Readings, taken: bool, rewritten: &[u8]) -> Vec<Note> {
+/// What a text shows, by how the old and the new rules read it and by what is printed for it.
+pub fn notes(one: &OldText, readings: [&Readings; 2], rewritten: &[u8]) -> Vec<Note> {
     let text = one.text();
+    let taken = rewritten != CANNOT_READ;
     let mut notes = Vec::new();
     match &one.content {
-        Some(content) => notes.push(of_sort(content, old, taken, text == rewritten)),
+        Some(content) => notes.push(of_sort(content, readings, taken, text == rewritten)),
         None => notes.push((EXAMPLES.into(), vec![other(file_name(&one.name))])),
     }
     if let Some(form) = one.form {
@@ -140,6 +146,9 @@ fn demanded_of(sort: Sort) -> Vec<Seen> {
     }
     if matches!(sort, Sort::Bounds | Sort::Subgraph) {
         seen.push(other(OTHERWISE));
+    }
+    if sort == Sort::Prices {
+        seen.push(other(BEYOND_OLD));
     }
     seen
 }

@@ -7,6 +7,7 @@ use crate::forms::{Form, Role};
 use crate::graphs::{extreme_graphs, Lent};
 use crate::sorts::{Content, Sort};
 use crate::texts::{damaged, joined, Draft};
+use reference::graph::{MOST_OLD_PRICE, MOST_PRICE};
 use reference::{Kind, Random};
 
 /// What stands under old.mtx, and what it was drawn from.
@@ -66,18 +67,28 @@ fn set_extreme(random: &mut Random, content: &mut Content) {
             Role::Signed,
             &[-1_000_001, -1_000_000, 1_000_000, 1_000_001],
         ),
-        _ => (Role::Signed, &[-1, 64, 65, 2_000_000, 2_000_001]),
+        3 => (Role::Signed, &[-1, 64, 65, 2_000_000, 2_000_001]),
+        _ => (Role::Signed, &[-1, 64, 65, 4_000_000, 4_000_001]),
     };
     let value = random.pick(values);
     content.draft.set(random, role, value);
 }
 
-/// Something is made wrong: a number, the ends of an edge, or the graph that a subgraph belongs to, which loses an edge.
+/// One to three prices go beyond those that the old rules take.
+fn go_beyond(random: &mut Random, content: &mut Content) {
+    for _ in 0..1 + random.below(3) {
+        let price = random.between(MOST_OLD_PRICE + 1, MOST_PRICE);
+        content.draft.set(random, Role::Signed, price.into());
+    }
+}
+
+/// Something is made wrong: a number, some prices, the ends of an edge, or the graph that a subgraph belongs to, which loses an edge.
 fn spoil(random: &mut Random, content: &mut Content) {
     let has_ends = matches!(content.sort, Sort::Graph | Sort::Subgraph);
     match random.below(6) {
         0 if has_ends => content.draft.repeat_ends(random),
         1 if content.sort == Sort::Subgraph => content.graph.lose_last_edge(),
+        2 | 3 if content.sort == Sort::Prices => go_beyond(random, content),
         _ => set_extreme(random, content),
     }
 }
@@ -165,7 +176,7 @@ fn longest(random: &mut Random) -> Vec<OldText> {
 }
 
 /// Signed numbers at the ends of their ranges and beyond them.
-const EXTREME_NUMBERS: [(Sort, i64); 12] = [
+const EXTREME_NUMBERS: [(Sort, i64); 14] = [
     (Sort::Graph, -1_000_001),
     (Sort::Graph, -1_000_000),
     (Sort::Graph, 1_000_000),
@@ -178,6 +189,8 @@ const EXTREME_NUMBERS: [(Sort, i64); 12] = [
     (Sort::Prices, 0),
     (Sort::Prices, 2_000_000),
     (Sort::Prices, 2_000_001),
+    (Sort::Prices, 4_000_000),
+    (Sort::Prices, 4_000_001),
 ];
 
 /// Texts with a number at the end of a range or beyond it, and nothing else that is wrong.
@@ -195,6 +208,22 @@ fn extreme(random: &mut Random) -> Vec<OldText> {
         content.draft.set(random, Role::Signed, value);
         let name = format!("{}, {value}", sort.words());
         texts.extend(in_both_forms(random, &name, &content));
+    }
+    texts
+}
+
+/// Texts with prices beyond those that the old rules take, and nothing else that is wrong.
+fn beyond(random: &mut Random) -> Vec<OldText> {
+    let mut texts = Vec::new();
+    for kind in [Kind::Bipartite, Kind::General] {
+        let mut graphs: Vec<_> = (0..20).map(|_| small(random, kind)).collect();
+        graphs.push(Lent::largest(random, kind, 1024));
+        for graph in graphs {
+            let mut content = Content::of(random, Sort::Prices, graph);
+            go_beyond(random, &mut content);
+            let name = format!("{} prices, some beyond the old range", content.count);
+            texts.extend(in_both_forms(random, &name, &content));
+        }
     }
     texts
 }
@@ -225,7 +254,7 @@ fn in_each_form(random: &mut Random) -> Vec<OldText> {
     texts
 }
 
-/// The texts of the examples, those in each form, the unusual, the longest and the extreme ones, and `count` others.
+/// The texts of the examples, those in each form, the unusual, the longest and the extreme ones, those with prices beyond the old range, and `count` others.
 pub fn all(seed: u64, count: usize) -> Vec<OldText> {
     let mut random = Random::new(seed);
     let mut texts: Vec<_> = of_examples().collect();
@@ -233,6 +262,7 @@ pub fn all(seed: u64, count: usize) -> Vec<OldText> {
     texts.extend(unusual(&mut random));
     texts.extend(longest(&mut random));
     texts.extend(extreme(&mut random));
+    texts.extend(beyond(&mut random));
     texts.extend((0..count).map(|at| any(&mut random, format!("{at} of seed {seed}"))));
     texts
 }

@@ -115,7 +115,7 @@ fn compare_graphs(random: &mut Random, tally: &mut Tally) {
 
 fn compare_numbers(random: &mut Random, tally: &mut Tally) {
     let what = random.pick(&[What::Bounds, What::Prices]);
-    let most = if what == What::Bounds { 64 } else { 2_000_000 };
+    let most = if what == What::Bounds { 64 } else { 4_000_000 };
     let held = if random.below(100) == 0 {
         1 + random.below(1152)
     } else {

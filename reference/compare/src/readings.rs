@@ -1,4 +1,4 @@
-//! What the three readers give for a text: the proved ones, and those of the old rules.
+//! What the three readers give for a text: the proved ones, and the separately written ones by the new and the old rules.
 
 use crate::proved;
 use crate::sorts::Sort;
@@ -22,6 +22,13 @@ pub const PROVED: Readers = Readers {
     graph: proved::read_graph,
     numbers: proved::read_numbers,
     subgraph: proved::read_subgraph,
+};
+
+/// The separately written readers.
+pub const NEW_RULES: Readers = Readers {
+    graph: reference::read_graph,
+    numbers: reference::read_numbers,
+    subgraph: |text, g, out| reference::read_subgraph(text, g, out).map(|_| ()),
 };
 
 /// The separately written readers by the old rules.
@@ -74,6 +81,13 @@ impl Readings {
         self.graph.0.is_ok()
             || self.numbers.iter().flatten().any(|read| read.0.is_ok())
             || self.subgraphs.iter().any(|read| read.0.is_ok())
+    }
+
+    /// Whether the text is taken as prices, of which one is larger than this.
+    pub fn has_price_above(&self, most: i32) -> bool {
+        let prices = self.numbers.iter().map(|[_, prices]| prices);
+        let mut taken = prices.filter(|read| read.0.is_ok());
+        taken.any(|(_, prices)| prices.iter().any(|&price| price > most))
     }
 
     /// What reading as a sort of text shows, with the first count and the first graph.

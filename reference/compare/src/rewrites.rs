@@ -3,21 +3,23 @@
 use crate::files::{Entry, OLD};
 use crate::old_situations::{demanded, notes};
 use crate::old_texts::{all, OldText};
-use crate::readings::{Readings, OLD_RULES, PROVED};
+use crate::readings::{Readings, NEW_RULES, OLD_RULES, PROVED};
 use crate::runs::{Built, Printed, REWRITE};
 use crate::tally::Note;
 use crate::twice::{self, Twice};
+use reference::graph::MOST_OLD_PRICE;
 use reference::read::MOST_NUMBERS;
 use reference::rewrite::{own_graph, CANNOT_READ};
 use reference::{read_numbers_by, rewrite, Graph, OwnedGraph, Rules, What};
 use std::io;
 
-/// The count with which the old rules take a text as prices, and so the only one with which they may take it as bounds.
+/// The count with which the old or the new rules take a text as prices, and so the only one with which they may take it as bounds.
 fn count_of(text: &[u8]) -> Option<u32> {
     let mut out = vec![0; MOST_NUMBERS as usize];
     (1..=MOST_NUMBERS).find(|&count| {
         let out = &mut out[..count as usize];
-        read_numbers_by(Rules::Old, text, count, What::Prices, out).is_ok()
+        let mut taken = |rules| read_numbers_by(rules, text, count, What::Prices, out).is_ok();
+        taken(Rules::Old) || taken(Rules::New)
     })
 }
 
@@ -41,9 +43,10 @@ impl<'a> Rewriting<'a> {
         let own = own_graph(text).filter(|own| own.row.len() <= 1024);
         let drawn = old.content.iter().map(|content| content.count.max(1));
         let counts: Vec<_> = drawn.chain(count_of(text)).collect();
-        let readings = Readings::of(&OLD_RULES, text, &counts, &graphs(old, &own));
+        let read = |readers| Readings::of(readers, text, &counts, &graphs(old, &own));
+        let readings = read(&OLD_RULES);
         let expected = rewrite(text);
-        let notes = notes(old, &readings, expected != CANNOT_READ, &expected);
+        let notes = notes(old, [&readings, &read(&NEW_RULES)], &expected);
         Rewriting {
             old,
             own,
@@ -91,7 +94,14 @@ impl Twice for Rewriting<'_> {
         if taken && self.proved_readings(&left.out) != self.readings {
             return Err("it reads otherwise than before".into());
         }
-        if left.out != self.old.text() && self.proved_readings(self.old.text()).any_taken() {
+        let as_it_stands = self.proved_readings(self.old.text());
+        if as_it_stands.has_price_above(MOST_OLD_PRICE) {
+            return match taken {
+                true => Err("it has a price that the old rules refuse".into()),
+                false => Ok(()),
+            };
+        }
+        if left.out != self.old.text() && as_it_stands.any_taken() {
             return Err("it was taken as it stood".into());
         }
         Ok(())

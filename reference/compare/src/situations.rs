@@ -31,6 +31,7 @@ const PLANS: &str = "solve, plans";
 const LINES: &str = "mark, lines";
 const NO_GAP: &str = "gap 0";
 const GAP: &str = "gap above 0";
+const ODD_GAP: &str = "odd gap, and so odd prices";
 const NEGATIVE: &str = "merit below 0";
 
 const ABSENT: &str = "absent files";
@@ -75,6 +76,10 @@ fn seen_in_result(g: &Graph, text: &[u8], best: Option<Best>) -> Note {
     }
     let no_gap = text.ends_with(b" gap 0\n");
     seen.push(other(if no_gap { NO_GAP } else { GAP }));
+    let last_digit = text.trim_ascii_end().last();
+    if last_digit.is_some_and(|digit| digit % 2 == 1) {
+        seen.push(other(ODD_GAP));
+    }
     if text.starts_with(b"merit -") {
         seen.push(other(NEGATIVE));
     }
@@ -152,7 +157,7 @@ pub fn demanded() -> Vec<Note> {
     let mut plans: Vec<_> = [Best::One, Best::Several, Best::Untried]
         .map(|best| other(best.words()))
         .into();
-    let mut lines = vec![other(NO_GAP), other(GAP), other(NEGATIVE)];
+    let mut lines: Vec<_> = [NO_GAP, GAP, ODD_GAP, NEGATIVE].map(other).into();
     for full in [false, true] {
         plans.push(sort_of_graph(Kind::Bipartite, full));
         lines.push(sort_of_graph(Kind::Bipartite, full));

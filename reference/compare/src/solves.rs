@@ -1,14 +1,15 @@
 //! The solver, on small graphs where every subgraph is tried, and on large ones.
 
-use crate::graphs::{length, Lent};
+use crate::graphs::{feasible, length, Lent};
 use crate::guard::Guarded;
 use crate::indexes::change;
 use crate::measures::Measuring;
 use crate::proved;
 use crate::tally::{Seen, Tally};
+use reference::brute::weight_of;
 use reference::{index_length, largest_weight, Graph, Kind, Random, Refusal};
 
-/// What the separately written solver gives.
+/// What a solver gives.
 pub struct Solved {
     /// The marks of an optimal subgraph.
     pub chosen: Vec<u8>,
@@ -19,7 +20,7 @@ pub struct Solved {
 }
 
 impl Solved {
-    /// Solves a graph whose lengths are right.
+    /// What the separately written solver gives for a graph whose lengths are right.
     pub fn of(g: &Graph, bound: &[i32]) -> Result<Solved, Refusal> {
         let (n, m) = (bound.len(), g.edges as usize);
         let (mut chosen, mut vertex, mut edge) = (vec![0; m], vec![0; n], vec![0; m]);
@@ -40,6 +41,23 @@ impl Solved {
             vertex,
             edge,
         })
+    }
+
+    /// Whether a feasible subgraph has, by both measuring calls, a gap of twice what it lacks.
+    fn has_right_gap(&self, g: &Graph, bound: &[i32], chosen: &[u8]) -> bool {
+        let (vertex, edge) = (&self.vertex, &self.edge);
+        let [ours, theirs] = [reference::measure, proved::measure as Measuring]
+            .map(|measure| measure(g, bound, chosen, vertex, edge, 0, &[], &[], &[]));
+        let lack = weight_of(g, &self.chosen) - weight_of(g, chosen);
+        ours == theirs && ours.is_ok_and(|numbers| numbers.gap == 2 * lack)
+    }
+
+    /// Whether the prices are even and in the solver's range, and the gaps of its subgraph and of another feasible one are right.
+    fn is_right(&self, random: &mut Random, g: &Graph, bound: &[i32]) -> bool {
+        let mut prices = self.vertex.iter().chain(&self.edge);
+        prices.all(|price| (0..=2_000_000).contains(price) && price % 2 == 0)
+            && self.has_right_gap(g, bound, &self.chosen)
+            && self.has_right_gap(g, bound, &feasible(random, g, bound))
     }
 }
 
@@ -97,17 +115,15 @@ fn compare_one(random: &mut Random, lent: &Lent, bound: &[i32], tally: &mut Tall
         && workspace.lend().iter().all(|&x| x == 0);
     match solved {
         Ok(()) if agreed => {
-            let weight = |x: &[u8]| reference::brute::weight_of(&g, x);
-            let in_range = |prices: &[i32]| prices.iter().all(|p| (0..=1_000_000).contains(p));
-            let (chosen, vertex, edge) = (chosen.lend(), vertex.lend(), edge.lend());
-            let [ours, theirs] = [reference::measure, proved::measure as Measuring]
-                .map(|measure| measure(&g, bound, chosen, vertex, edge, 0, &[], &[], &[]));
-            agreed = weight(chosen) == weight(&other.0)
-                && in_range(vertex)
-                && in_range(edge)
-                && ours == theirs
-                && ours.is_ok_and(|numbers| numbers.gap == 0)
-                && (!small || weight(chosen) == largest_weight(&g, bound));
+            let found = Solved {
+                chosen: chosen.lend().to_vec(),
+                vertex: vertex.lend().to_vec(),
+                edge: edge.lend().to_vec(),
+            };
+            let weight = weight_of(&g, &found.chosen);
+            agreed = weight == weight_of(&g, &other.0)
+                && found.is_right(random, &g, bound)
+                && (!small || weight == largest_weight(&g, bound));
         }
         Ok(()) => {}
         Err(_) => {

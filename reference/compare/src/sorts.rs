@@ -4,6 +4,7 @@ use crate::folders::small;
 use crate::forms::{Form, Role};
 use crate::graphs::{bounds, prices, Lent};
 use crate::texts::Draft;
+use reference::graph::MOST_OLD_PRICE;
 use reference::{Kind, Random};
 
 /// A sort of text.
@@ -49,7 +50,7 @@ pub struct Content {
 }
 
 impl Content {
-    /// Something right of a sort for a right graph.
+    /// Something right of a sort for a right graph, with prices that the old rules take too.
     pub fn of(random: &mut Random, sort: Sort, graph: Lent) -> Content {
         let (n, m) = (graph.vertices(), graph.row.len());
         let mut count = 0;
@@ -61,9 +62,11 @@ impl Content {
             Sort::Graph => Draft::of_graph(&graph.lend()),
             Sort::Bounds => numbers(bounds(random, n)),
             Sort::Prices => {
-                let most = random.pick(&[3, 64, 2_000_000]);
-                let extreme = random.below(20) == 0;
-                numbers(prices(random, n + m, most, extreme))
+                let most = random.pick(&[3, 64, MOST_OLD_PRICE]);
+                numbers(match random.below(20) {
+                    0 => vec![MOST_OLD_PRICE; n + m],
+                    _ => prices(random, n + m, most, false),
+                })
             }
             Sort::Subgraph => {
                 let one_in = random.pick(&[1, 2, 2, 3]);

@@ -22,7 +22,7 @@ fn the_worked_example_is_solved_and_marked() {
     assert_eq!(solve("examples/worked"), plan);
     assert_eq!(
         mark("examples/worked"),
-        "merit 6 total 8 fish 0 groups 0 pairs 0 cover 2 gap 2\n"
+        "merit 6 total 16 fish 0 groups 0 pairs 0 cover 4 gap 4\n"
     );
 }
 
@@ -32,7 +32,8 @@ fn the_season_and_the_walk_have_one_best_plan() {
         let folder = example(name);
         let plan = folder.lend().subgraph.unwrap();
         assert_eq!(solve_output(&folder.lend()), plan, "{name}");
-        let line = format!("merit {merit} total {merit} fish 0 groups 0 pairs 0 cover 0 gap 0\n");
+        let total = 2 * merit;
+        let line = format!("merit {merit} total {total} fish 0 groups 0 pairs 0 cover 0 gap 0\n");
         assert_eq!(mark(name), line, "{name}");
     }
 }
@@ -57,11 +58,11 @@ fn the_class_is_marked() {
     let lines = [
         (
             "best",
-            "merit 2960 total 2960 fish 0 groups 0 pairs 0 cover 0 gap 0\n",
+            "merit 2960 total 5920 fish 0 groups 0 pairs 0 cover 0 gap 0\n",
         ),
         (
             "falling-merit",
-            "merit 2685 total 2960 fish 275 groups 0 pairs 0 cover 0 gap 275\n",
+            "merit 2685 total 5920 fish 550 groups 0 pairs 0 cover 0 gap 550\n",
         ),
         ("over-limit", "refused 12 at 4 in input\n"),
         ("uncovered", "refused 15 at 1 in input\n"),
@@ -84,28 +85,36 @@ fn the_tank_has_gap_0_with_its_group_and_not_without() {
         &g,
         input.bound(),
         &plan,
-        &[0, 0, 2, 4, 0],
+        &[0, 0, 4, 8, 0],
         &[0; 5],
         1,
-        &[10],
+        &[20],
         &[7, 0],
         &edges,
     );
     let group = group.unwrap();
-    assert_eq!((group.weight, group.total, group.gap), (16, 16, 0));
+    assert_eq!((group.weight, group.total, group.gap), (16, 32, 0));
     let halves = proved::measure(
         &g,
         input.bound(),
         &plan,
-        &[5, 5, 5, 4, 0],
+        &[10, 10, 10, 8, 0],
         &[0; 5],
         0,
         &[],
         &[],
         &[],
     );
-    assert_eq!(halves.unwrap().gap, 3);
+    assert_eq!(halves.unwrap().gap, 6);
     assert_eq!(solve("examples/tank"), "refused 16 at 0 in input\n");
+}
+
+#[test]
+fn the_triangle_has_a_gap_of_half_a_point() {
+    assert_eq!(
+        mark("examples/triangle"),
+        "merit 1 total 3 fish 1 groups 0 pairs 0 cover 0 gap 1\n"
+    );
 }
 
 #[test]

@@ -10,7 +10,7 @@ use compare::tidy_runs::Tidying;
 use compare::twice::Twice;
 
 const PLAN: &str = "%%MatrixMarket matrix coordinate pattern general\n2 2 2\n1 2\n2 1\n";
-const LINE: &str = "merit 6 total 8 fish 0 groups 0 pairs 0 cover 2 gap 2\n";
+const LINE: &str = "merit 6 total 16 fish 0 groups 0 pairs 0 cover 4 gap 4\n";
 
 fn printed(out: &str) -> Printed {
     Printed {
@@ -47,7 +47,10 @@ fn a_wrong_line_may_not() {
     let worked = example("examples/worked");
     for wrong in [
         LINE.replace("merit 6", "merit -6"),
-        LINE.replace("cover 2", "cover 1"),
+        LINE.replace("merit 6", "merit 12"),
+        LINE.replace("cover 4", "cover 2"),
+        LINE.replace("gap 4", "gap 10"),
+        "merit 6 total 8 fish 0 groups 0 pairs 0 cover 2 gap 2\n".into(),
         LINE.trim_end().to_string(),
         LINE.repeat(2),
         String::new(),
@@ -164,13 +167,31 @@ fn only_numbers_may_be_rewritten() {
     }
 }
 
+/// A text of one price.
+fn one_price(price: &str) -> String {
+    format!("%%MatrixMarket matrix array integer general\n1 1\n{price}\n")
+}
+
 #[test]
 fn what_the_old_rules_refuse_may_not_be_rewritten() {
-    let old = "%%MatrixMarket matrix array integer general\n1 1\n+2000001\n";
     let line = "cannot read\n";
-    assert!(may_rewrite(old, line, line));
-    for wrong in [old, &old.replace('+', ""), "cannot read", ""] {
-        assert!(!may_rewrite(old, wrong, wrong), "{wrong:?}");
+    for price in ["+2000001", "2000001", "4000000", "4000001"] {
+        let old = one_price(price);
+        assert!(may_rewrite(&old, line, line));
+        let plain = one_price(price.trim_start_matches('+'));
+        for wrong in [old.as_str(), plain.as_str(), "cannot read", ""] {
+            assert!(!may_rewrite(&old, wrong, wrong), "{wrong:?}");
+        }
+    }
+}
+
+#[test]
+fn prices_of_the_old_range_must_be_rewritten() {
+    let (new, line) = (one_price("2000000"), "cannot read\n");
+    for price in ["2000000", "+2000000", "002000000"] {
+        let old = one_price(price);
+        assert!(may_rewrite(&old, &new, &new), "{price}");
+        assert!(!may_rewrite(&old, line, line), "{price}");
     }
 }
 

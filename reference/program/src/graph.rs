@@ -1,6 +1,7 @@
 //! Graphs, and the tests on a graph's numbers.
 
 use crate::refusal::Refusal;
+use std::ops::Add;
 
 /// The most row or column vertices of a bipartite graph (dams, sires).
 pub const MOST_SIDE: u32 = 64;
@@ -14,8 +15,10 @@ pub const MOST_EDGES: u32 = 1_024;
 pub const MOST_WEIGHT: i32 = 1_000_000;
 /// The largest bound (limit).
 pub const MOST_BOUND: i32 = 64;
-/// The largest price of any sort (price).
-pub const MOST_PRICE: i32 = 2_000_000;
+/// The largest price of any sort, in half points (price).
+pub const MOST_PRICE: i32 = 4_000_000;
+/// The largest price in a text by the old rules (document 01's price).
+pub const MOST_OLD_PRICE: i32 = 2_000_000;
 /// The most odd sets (groups).
 pub const MOST_SETS: u32 = 16;
 
@@ -179,9 +182,15 @@ pub(crate) fn bound_in_range(bound: i32) -> bool {
     (0..=MOST_BOUND).contains(&bound)
 }
 
-/// Whether a price is in range (refusal 13).
-pub(crate) fn price_in_range(price: i32) -> bool {
-    (0..=MOST_PRICE).contains(&price)
+/// Whether a price is from 0 to the largest (refusal 13).
+pub(crate) fn price_in_range(price: i32, most: i32) -> bool {
+    (0..=most).contains(&price)
+}
+
+/// What points are worth in half points. Weights are in points and prices in
+/// half points.
+pub fn half_points<T: Copy + Add<Output = T>>(points: T) -> T {
+    points + points
 }
 
 /// Whether the three slices of a graph have its count of edges (refusal 9).

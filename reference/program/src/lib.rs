@@ -1,6 +1,6 @@
 //! The separately written program of document 01, "The crossing sheet, its
 //! plans and its prices", and of document 02's requests for an index, for one
-//! way to write a number and for the tidy sheet.
+//! way to write a number, for the tidy sheet and for prices in half points.
 //!
 //! It uses the field's words. Each definition says which word of the documents
 //! it is.
@@ -23,7 +23,7 @@ pub mod tidy;
 pub mod write;
 
 pub use brute::{feasible_subgraphs, largest_weight, FeasibleSubgraphs};
-pub use graph::{Graph, Head, Kind, OwnedGraph};
+pub use graph::{half_points, Graph, Head, Kind, OwnedGraph};
 pub use index::{build_index, index_length, test_index};
 pub use measure::{measure, Measures};
 pub use programs::{mark_output, solve_output, tidy_output, Files};

@@ -1,8 +1,8 @@
 //! Measuring a subgraph against prices.
 
 use crate::graph::{
-    graph_lengths_right, has_length, price_in_range, test_bounds, test_chosen, test_graph, Graph,
-    MOST_SETS, MOST_VERTICES,
+    graph_lengths_right, half_points, has_length, price_in_range, test_bounds, test_chosen,
+    test_graph, Graph, MOST_PRICE, MOST_SETS, MOST_VERTICES,
 };
 use crate::refusal::Refusal;
 
@@ -11,7 +11,8 @@ pub const VERTEX_WORDS: usize = 2;
 /// The words of one odd set's marked edges.
 pub const EDGE_WORDS: usize = 16;
 
-/// What the measuring call hands back, all in points.
+/// What the measuring call hands back: the weight in points, all else in half
+/// points.
 #[derive(Clone, Copy, Debug, PartialEq, Eq)]
 pub struct Measures {
     /// The weight of the subgraph (merit of the plan).
@@ -26,7 +27,7 @@ pub struct Measures {
     pub edges: i64,
     /// The slack of the cover (leftover cover).
     pub cover: i64,
-    /// The gap: total minus weight (gap).
+    /// The gap: total minus what the weight is worth in half points (gap).
     pub gap: i64,
 }
 
@@ -88,8 +89,8 @@ impl OddSet<'_> {
 }
 
 /// Measures a subgraph against prices (the call that measures a plan against
-/// prices). `sets` is the count of odd sets; each has a price, 2 words of
-/// vertices and 16 words of marked edges.
+/// prices). Prices of every sort are in half points. `sets` is the count of odd
+/// sets; each has a price, 2 words of vertices and 16 words of marked edges.
 #[allow(clippy::too_many_arguments)]
 pub fn measure(
     graph: &Graph,
@@ -132,7 +133,7 @@ pub fn measure(
 
     let prices = vertex_price.iter().chain(edge_price).chain(set_price);
     for (position, &price) in prices.enumerate() {
-        if !price_in_range(price) {
+        if !price_in_range(price, MOST_PRICE) {
             return Err(Refusal::new(13, position as u64 + 1));
         }
     }
@@ -155,13 +156,13 @@ pub fn measure(
         return Err(Refusal::new(14, u64::from(MOST_SETS) + 1));
     }
 
-    // What the prices over each edge exceed its weight by.
+    // By how much the prices over each edge exceed what its weight is worth.
     let over = |edge: usize| -> i64 {
         let (first, second) = graph.ends(edge);
         let ends = i64::from(vertex_price[first]) + i64::from(vertex_price[second]);
         let sets = odd_sets.clone().filter(|set| set.covers(graph, edge));
         ends + i64::from(edge_price[edge]) + sets.map(|set| set.price).sum::<i64>()
-            - i64::from(graph.weight[edge])
+            - half_points(i64::from(graph.weight[edge]))
     };
     let m = graph.row.len();
     if let Some(bare) = (0..m).find(|&edge| over(edge) < 0) {
@@ -205,6 +206,6 @@ pub fn measure(
         sets,
         edges,
         cover,
-        gap: total - weight,
+        gap: total - half_points(weight),
     })
 }

@@ -18,7 +18,7 @@ pub struct Files<'a> {
     pub bounds: Option<&'a [u8]>,
     /// The subgraph (plan.mtx), read by `mark`.
     pub subgraph: Option<&'a [u8]>,
-    /// The prices (prices.mtx), read by `mark`.
+    /// The prices in half points (prices.mtx), read by `mark`.
     pub prices: Option<&'a [u8]>,
 }
 
@@ -136,7 +136,8 @@ pub fn solve_files(files: &Files) -> Result<Vec<u8>, Refused> {
     Ok(out)
 }
 
-/// The line that `mark` prints, or its refusal.
+/// The line that `mark` prints, its merit in points and all else in half points,
+/// or its refusal.
 pub fn mark_files(files: &Files) -> Result<Vec<u8>, Refused> {
     let input = Input::read(files)?;
     let graph = input.graph();

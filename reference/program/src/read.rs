@@ -159,7 +159,9 @@ fn read_numbers_into(
         };
         match what {
             What::Bounds if !bound_in_range(value) => return Err(lines.refuse(10)),
-            What::Prices if !price_in_range(value) => return Err(lines.refuse(13)),
+            What::Prices if !price_in_range(value, rules.most_price()) => {
+                return Err(lines.refuse(13))
+            }
             _ => *number = value,
         }
     }

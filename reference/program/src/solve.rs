@@ -13,7 +13,9 @@
 //! So the search drops a column that is reached with no more than the best gain
 //! found so far, and goes on only from columns without residual bound.
 
-use crate::graph::{graph_lengths_right, has_length, test_bounds, test_graph, Graph, Kind};
+use crate::graph::{
+    graph_lengths_right, half_points, has_length, test_bounds, test_graph, Graph, Kind,
+};
 use crate::index::{index_length, test_numbers};
 use crate::refusal::Refusal;
 
@@ -24,10 +26,10 @@ pub const WORKSPACE: usize = 4_096;
 const UNREACHED: i32 = i32::MIN;
 
 /// Solves a bipartite graph (the solver): an optimal subgraph, that is a
-/// feasible one of largest weight (valid plan of largest merit), and prices
-/// from 0 to 1,000,000 that cover every edge with gap 0. The workspace of 4,096
-/// numbers is 0 afterwards; after a refusal all outputs are 0 too. The graph's
-/// index is lent and tested; this method makes no use of it.
+/// feasible one of largest weight (valid plan of largest merit), and even
+/// prices from 0 to 2,000,000 half points that cover every edge with gap 0. The
+/// workspace of 4,096 numbers is 0 afterwards; after a refusal all outputs are 0
+/// too. The graph's index is lent and tested; this method makes no use of it.
 pub fn solve(
     graph: &Graph,
     bound: &[i32],
@@ -283,7 +285,8 @@ struct Ring {
 /// with residual bound and at the largest weight without, and falls; a column's
 /// starts at 0 and rises. They stop where each edge not chosen is covered by its
 /// ends' prices and no chosen edge's weight is exceeded by them. No vertex with
-/// residual bound gets a price above 0, since no path gains.
+/// residual bound gets a price above 0, since no path gains. All this is in
+/// points; the prices are handed out in half points.
 fn set_prices(
     graph: &Graph,
     chosen: &[u8],
@@ -315,5 +318,8 @@ fn set_prices(
             let (row, column) = graph.ends(edge);
             edge_price[edge] = graph.weight[edge] - vertex_price[row] - vertex_price[column];
         }
+    }
+    for price in vertex_price.iter_mut().chain(edge_price) {
+        *price = half_points(*price);
     }
 }

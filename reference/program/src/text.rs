@@ -1,6 +1,6 @@
 //! Lines, words, numbers and headers of Matrix Market texts.
 
-use crate::graph::Kind;
+use crate::graph::{Kind, MOST_OLD_PRICE, MOST_PRICE};
 use crate::refusal::Refusal;
 
 /// The most bytes of a text.
@@ -8,13 +8,15 @@ pub const MOST_TEXT: usize = 32_768;
 /// The most bytes of a line before its byte 10.
 pub const MOST_LINE: usize = 1_024;
 
-/// The rules by which numbers are written.
+/// The rules by which numbers are written, and how large a price may be.
 #[derive(Clone, Copy, Debug, PartialEq, Eq)]
 pub enum Rules {
     /// Document 01's: leading zeros are taken, and a + before a signed number.
+    /// A price is at most 2,000,000.
     Old,
     /// Document 02's request for one way: no leading zero unless the number is
-    /// the single digit 0, no + and no -0.
+    /// the single digit 0, no + and no -0. A price is at most 4,000,000 half
+    /// points.
     New,
 }
 
@@ -60,6 +62,14 @@ impl Rules {
             },
             [b'+', digits @ ..] if self == Rules::Old => Some(self.natural(digits)? as i32),
             digits => Some(self.natural(digits)? as i32),
+        }
+    }
+
+    /// The largest price in a text.
+    pub(crate) fn most_price(self) -> i32 {
+        match self {
+            Rules::Old => MOST_OLD_PRICE,
+            Rules::New => MOST_PRICE,
         }
     }
 }

@@ -1,4 +1,5 @@
-//! The twelve cases of document 01 and its near misses.
+//! The twelve cases of document 01 and its near misses, with prices, totals,
+//! slacks and gaps in half points.
 
 mod common;
 use common::*;
@@ -41,17 +42,17 @@ fn case_2_best_8() {
 }
 
 #[test]
-fn case_3_gap_2() {
+fn case_3_gap_4() {
     let graph = case_2();
     let found = measured(
         &graph.lend(),
         &[1; 4],
         &[1, 0, 0, 1],
-        &[2, 1, 3, 2],
+        &[4, 2, 6, 4],
         &[0; 4],
         &Sets::none(),
     );
-    assert_eq!(found, Ok(measures([6, 8, 0, 0, 0, 2, 2])));
+    assert_eq!(found, Ok(measures([6, 16, 0, 0, 0, 4, 4])));
     assert_eq!(largest_weight(&graph.lend(), &[1; 4]), 8);
 }
 
@@ -66,7 +67,7 @@ fn case_4_negative_weight() {
 fn case_5_bound_0() {
     let graph = star(&[7]);
     assert_eq!(solver_best(&graph, &[0, 5]), 0);
-    let found = measured(&graph.lend(), &[0, 5], &[0], &[7, 0], &[0], &Sets::none());
+    let found = measured(&graph.lend(), &[0, 5], &[0], &[14, 0], &[0], &Sets::none());
     assert_eq!(found, Ok(measures([0, 0, 0, 0, 0, 0, 0])));
     assert_eq!(solver_best(&graph, &[5, 0]), 0);
 }
@@ -74,13 +75,13 @@ fn case_5_bound_0() {
 #[test]
 fn case_6_odd_set() {
     let graph = triangle();
-    let sets = Sets::none().and(1, &[1, 2, 3], &[]);
+    let sets = Sets::none().and(2, &[1, 2, 3], &[]);
     for chosen in [[1, 0, 0], [0, 1, 0], [0, 0, 1]] {
         let found = measured(&graph.lend(), &[1; 3], &chosen, &[0; 3], &[0; 3], &sets);
-        assert_eq!(found, Ok(measures([1, 1, 0, 0, 0, 0, 0])));
+        assert_eq!(found, Ok(measures([1, 2, 0, 0, 0, 0, 0])));
     }
     let found = measured(&graph.lend(), &[1; 3], &[0; 3], &[0; 3], &[0; 3], &sets);
-    assert_eq!(found, Ok(measures([0, 1, 0, 1, 0, 0, 1])));
+    assert_eq!(found, Ok(measures([0, 2, 0, 2, 0, 0, 2])));
 }
 
 #[test]
@@ -89,17 +90,17 @@ fn case_7_gap_without_lack() {
     let bound = [1; 3];
     assert_eq!(largest_weight(&graph.lend(), &bound), 1);
     // Edges are 2-1, 3-1 and 3-2; the second and third leave a vertex of price
-    // 1 unused, the first is covered by 2 points.
-    for (chosen, vertices, cover) in [([1, 0, 0], 0, 1), ([0, 1, 0], 1, 0), ([0, 0, 1], 1, 0)] {
+    // 2 unused, the first is covered by 4 half points.
+    for (chosen, vertices, cover) in [([1, 0, 0], 0, 2), ([0, 1, 0], 2, 0), ([0, 0, 1], 2, 0)] {
         let found = measured(
             &graph.lend(),
             &bound,
             &chosen,
-            &[1, 1, 0],
+            &[2, 2, 0],
             &[0; 3],
             &Sets::none(),
         );
-        assert_eq!(found, Ok(measures([1, 2, vertices, 0, 0, cover, 1])));
+        assert_eq!(found, Ok(measures([1, 4, vertices, 0, 0, cover, 2])));
     }
 }
 
@@ -126,7 +127,7 @@ fn case_9_bound_range() {
 #[test]
 fn case_10_even_sum() {
     let graph = OwnedGraph::new(Kind::General, 2, 2, &[]);
-    let sets = Sets::none().and(1, &[1, 2], &[]);
+    let sets = Sets::none().and(2, &[1, 2], &[]);
     let found = measured(&graph.lend(), &[1, 1], &[], &[0; 2], &[], &sets);
     assert_eq!(found, Err(refusal(14, 1)));
 }
@@ -135,13 +136,13 @@ fn case_10_even_sum() {
 fn case_11_marked_edges() {
     let graph = star(&[1; 3]);
     let bound = [2, 1, 1, 1];
-    let sets = Sets::none().and(1, &[1], &[1, 2, 3]);
+    let sets = Sets::none().and(2, &[1], &[1, 2, 3]);
     let call = |chosen: [u8; 3]| {
         measured(&graph.lend(), &bound, &chosen, &[0; 4], &[0; 3], &sets).unwrap()
     };
-    assert_eq!(call([1, 0, 1]), measures([2, 2, 0, 0, 0, 0, 0]));
+    assert_eq!(call([1, 0, 1]), measures([2, 4, 0, 0, 0, 0, 0]));
     // The capacity is 2, so two less are chosen than it allows here.
-    assert_eq!(call([0, 0, 0]), measures([0, 2, 0, 2, 0, 0, 2]));
+    assert_eq!(call([0, 0, 0]), measures([0, 4, 0, 4, 0, 0, 4]));
     assert_eq!(solver_best(&graph, &bound), 2);
 }
 
@@ -153,11 +154,11 @@ fn case_12_edge_price() {
         &graph.lend(),
         &bound,
         &[1, 1],
-        &[3, 0, 0],
-        &[2, 0],
+        &[6, 0, 0],
+        &[4, 0],
         &Sets::none(),
     );
-    assert_eq!(found, Ok(measures([8, 8, 0, 0, 0, 0, 0])));
+    assert_eq!(found, Ok(measures([8, 16, 0, 0, 0, 0, 0])));
     assert_eq!(solver_best(&graph, &bound), 8);
 }
 
@@ -194,7 +195,7 @@ fn near_miss_marked_edge_charged_twice() {
     // the marked edge once, though the edge touches the vertex inside, and does
     // not cover the other.
     let graph = star(&[5, 2]);
-    let sets = Sets::none().and(5, &[1], &[1]);
+    let sets = Sets::none().and(10, &[1], &[1]);
     let call = |edge_price: [i32; 2], chosen: [u8; 2], sets: &Sets| {
         measured(
             &graph.lend(),
@@ -205,40 +206,40 @@ fn near_miss_marked_edge_charged_twice() {
             sets,
         )
     };
-    let found = call([0, 2], [1, 1], &sets);
-    assert_eq!(found, Ok(measures([7, 7, 0, 0, 0, 0, 0])));
-    assert_eq!(call([0, 1], [1, 1], &sets), Err(refusal(15, 2)));
-    let low = Sets::none().and(3, &[1], &[1]);
-    assert_eq!(call([0, 2], [1, 1], &low), Err(refusal(15, 1)));
+    let found = call([0, 4], [1, 1], &sets);
+    assert_eq!(found, Ok(measures([7, 14, 0, 0, 0, 0, 0])));
+    assert_eq!(call([0, 3], [1, 1], &sets), Err(refusal(15, 2)));
+    let low = Sets::none().and(9, &[1], &[1]);
+    assert_eq!(call([0, 4], [1, 1], &low), Err(refusal(15, 1)));
 }
 
 #[test]
 fn near_miss_inner_edge_charged_twice() {
-    // Both ends inside: the set's price of 2 counts once.
+    // Both ends inside: the set's price of 4 counts once.
     let edges = [(2, 1, 3), (3, 1, 1)];
     let graph = OwnedGraph::new(Kind::General, 3, 3, &edges);
-    let sets = Sets::none().and(2, &[1, 2, 3], &[]);
+    let sets = Sets::none().and(4, &[1, 2, 3], &[]);
     let call = |edge_price: [i32; 2]| {
         measured(&graph.lend(), &[1; 3], &[1, 0], &[0; 3], &edge_price, &sets)
     };
-    assert_eq!(call([0, 0]), Err(refusal(15, 1)));
-    assert_eq!(call([1, 0]), Ok(measures([3, 3, 0, 0, 0, 0, 0])));
+    assert_eq!(call([1, 0]), Err(refusal(15, 1)));
+    assert_eq!(call([2, 0]), Ok(measures([3, 6, 0, 0, 0, 0, 0])));
 }
 
 #[test]
 fn near_miss_gap_as_proof() {
-    // Case 7: the gap is 1, and the subgraph is optimal all the same.
+    // Case 7: the gap is 2, and the subgraph is optimal all the same.
     let graph = triangle();
     let found = measured(
         &graph.lend(),
         &[1; 3],
         &[1, 0, 0],
-        &[1, 1, 0],
+        &[2, 2, 0],
         &[0; 3],
         &Sets::none(),
     )
     .unwrap();
-    assert!(found.gap > 0);
+    assert_eq!(found.gap, 2);
     assert_eq!(found.weight, largest_weight(&graph.lend(), &[1; 3]));
 }
 
@@ -262,6 +263,6 @@ fn all_slacks_at_once() {
     );
     // weight 4 - 2; total 3 + 4 + 3, 7 + 8 + 9, 10 * 1, 5 * 3; vertices 1 * 1,
     // 2 * 1, 3 * 0; sets 10 * 1 and 5 * (3 - 2); edges 9; cover
-    // 1 + 2 + 7 + 5 - 4 and 1 + 3 + 8 + 5 + 2.
-    assert_eq!(found, Ok(measures([2, 59, 3, 15, 9, 30, 57])));
+    // 1 + 2 + 7 + 5 - 8 and 1 + 3 + 8 + 5 + 4; gap 59 - 4.
+    assert_eq!(found, Ok(measures([2, 59, 3, 15, 9, 28, 55])));
 }

@@ -294,7 +294,7 @@ fn point_13_positions_of_prices() {
     let mut sets = seventeen();
     sets.price[16] = -1;
     assert_eq!(with_sets(&sets), Err(refusal(13, 20)));
-    sets.price[0] = 2_000_001;
+    sets.price[0] = 4_000_001;
     assert_eq!(with_sets(&sets), Err(refusal(13, 4)));
 }
 
@@ -338,11 +338,11 @@ fn point_16_equal_sets_and_capacity_0() {
     let sets = Sets::none().and(3, &[1], &[]).and(3, &[1], &[]);
     // Bound 1 alone gives capacity 0: no total and no slack.
     assert_eq!(with_sets(&sets), Ok(measures([0; 7])));
-    // Two equal sets both count.
+    // Two equal sets both count: each edge needs both.
     let graph = triangle();
     let sets = Sets::none().and(1, &[1, 2, 3], &[]).and(1, &[1, 2, 3], &[]);
     let found = measured(&graph.lend(), &[1; 3], &[1, 0, 0], &[0; 3], &[0; 3], &sets);
-    assert_eq!(found, Ok(measures([1, 2, 0, 0, 0, 1, 1])));
+    assert_eq!(found, Ok(measures([1, 2, 0, 0, 0, 0, 0])));
 }
 
 #[test]

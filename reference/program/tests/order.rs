@@ -32,7 +32,7 @@ fn order_of_measure() {
     let mut rows = 65;
     let mut bound = vec![65; 67];
     let mut chosen = [1, 2, 1, 1, 1];
-    let mut vertex_price = vec![2_000_001; 67];
+    let mut vertex_price = vec![4_000_001; 67];
     let mut edge_price = [0; 5];
     let mut sets = Sets::none().and(1, &[], &[]);
     for expected in [9, 4, 6, 7, 8, 10, 11, 12, 13, 14, 15, 0] {
@@ -49,7 +49,7 @@ fn order_of_measure() {
         match expected {
             9 => {
                 bound.push(65);
-                vertex_price.push(2_000_001);
+                vertex_price.push(4_000_001);
             }
             4 => {
                 rows = 2;
@@ -62,7 +62,7 @@ fn order_of_measure() {
             12 => bound = vec![3; 5],
             13 => vertex_price = vec![1; 5],
             14 => sets = Sets::none().and(1, &[1], &[]),
-            15 => edge_price = [5; 5],
+            15 => edge_price = [10; 5],
             _ => {}
         }
     }

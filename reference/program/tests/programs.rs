@@ -44,10 +44,10 @@ const PLAN_1_4: &[u8] = b"%%MatrixMarket matrix coordinate pattern general
 
 const PRICES: &[u8] = b"%%MatrixMarket matrix array integer general
 8 1
+4
 2
-1
-3
-2
+6
+4
 0
 0
 0
@@ -85,12 +85,12 @@ fn worked_example_of_solve() {
 fn worked_example_of_mark() {
     assert_eq!(
         mark_output(&case_3(PLAN_1_4, PRICES)),
-        b"merit 6 total 8 fish 0 groups 0 pairs 0 cover 2 gap 2\n"
+        b"merit 6 total 16 fish 0 groups 0 pairs 0 cover 4 gap 4\n"
     );
     // The best plan with the same prices.
     assert_eq!(
         mark_output(&case_3(PLAN, PRICES)),
-        b"merit 8 total 8 fish 0 groups 0 pairs 0 cover 0 gap 0\n"
+        b"merit 8 total 16 fish 0 groups 0 pairs 0 cover 0 gap 0\n"
     );
 }
 
@@ -103,13 +103,13 @@ fn a_general_graph_is_marked_and_not_solved() {
         ),
         bounds: Some(b"%%MatrixMarket matrix array integer general\n3 1\n1\n1\n1\n"),
         subgraph: Some(b"%%MatrixMarket matrix coordinate pattern symmetric\n3 3 1\n3 2\n"),
-        prices: Some(b"%%MatrixMarket matrix array integer general\n6 1\n1\n1\n0\n0\n4\n0\n"),
+        prices: Some(b"%%MatrixMarket matrix array integer general\n6 1\n2\n2\n0\n0\n8\n0\n"),
     };
-    // total 1 + 1 + 4; fish 1 has price 1 and is unused; pair 2 is not chosen;
-    // pair 3 costs 1 and has merit -1.
+    // total 2 + 2 + 8; fish 1 has price 2 and is unused; pair 2 is not chosen;
+    // pair 3 costs 2 and its merit of -1 is worth -2.
     assert_eq!(
         mark_prints(&files),
-        "merit -1 total 6 fish 1 groups 0 pairs 4 cover 2 gap 7\n"
+        "merit -1 total 12 fish 2 groups 0 pairs 8 cover 4 gap 14\n"
     );
     assert_eq!(solve_prints(&files), "refused 16 at 0 in input\n");
 }
@@ -141,7 +141,7 @@ fn refusals_are_printed_with_their_file() {
     let right = case_3(PLAN_1_4, PRICES);
     let long = vec![b' '; 32_769];
     let bounds = numbers("4 1\n1\n65\n1\n1\n");
-    let prices = numbers("8 1\n2\n1\n3\n-1\n0\n0\n0\n0\n");
+    let prices = numbers("8 1\n4\n2\n6\n-1\n0\n0\n0\n0\n");
     let two_edges_of_1 = plan("general", "2 2 2\n1 1\n1 2\n");
     for (files, expected) in [
         (
@@ -194,7 +194,7 @@ fn refusals_are_printed_with_their_file() {
         assert_eq!(mark_prints(&files), expected);
     }
     // Prices that leave pair 1 uncovered.
-    let prices = numbers("8 1\n2\n1\n2\n2\n0\n0\n0\n0\n");
+    let prices = numbers("8 1\n4\n2\n5\n4\n0\n0\n0\n0\n");
     let files = Files {
         prices: Some(&prices),
         ..right

@@ -40,19 +40,19 @@ fn bounds(random: &mut Random, graph: &OwnedGraph) -> Vec<i32> {
 }
 
 /// Tests the solver's prices without the measuring call, and its subgraph and
-/// prices with it. Hands back the weight.
-fn test_solved(graph: &OwnedGraph, bound: &[i32]) -> i64 {
+/// prices with it. Hands back what the solver gave, and the weight.
+fn test_solved(graph: &OwnedGraph, bound: &[i32]) -> (Solved, i64) {
     let graph = graph.lend();
     let out = solved(&graph, bound).unwrap();
     let rows = graph.rows as usize;
     for price in out.vertex_price.iter().chain(&out.edge_price) {
-        assert!((0..=1_000_000).contains(price));
+        assert!((0..=2_000_000).contains(price) && price % 2 == 0);
     }
     for edge in 0..graph.row.len() {
         let row = graph.row[edge] as usize - 1;
         let column = rows + graph.column[edge] as usize - 1;
         let cover = out.vertex_price[row] + out.vertex_price[column] + out.edge_price[edge];
-        assert!(cover >= graph.weight[edge]);
+        assert!(cover >= 2 * graph.weight[edge]);
     }
     let found = measured(
         &graph,
@@ -65,10 +65,10 @@ fn test_solved(graph: &OwnedGraph, bound: &[i32]) -> i64 {
     .unwrap();
     assert_eq!(
         found,
-        measures([found.weight, found.weight, 0, 0, 0, 0, 0]),
+        measures([found.weight, 2 * found.weight, 0, 0, 0, 0, 0]),
         "gap 0 and no slack"
     );
-    found.weight
+    (out, found.weight)
 }
 
 #[test]
@@ -79,7 +79,7 @@ fn solver_agrees_with_trying_every_subgraph() {
         let graph = small_graph(&mut random, Kind::Bipartite);
         let bound = bounds(&mut random, &graph);
         let best = largest_weight(&graph.lend(), &bound);
-        assert_eq!(test_solved(&graph, &bound), best, "{graph:?} {bound:?}");
+        assert_eq!(test_solved(&graph, &bound).1, best, "{graph:?} {bound:?}");
         gaining += u32::from(best > 0);
     }
     // The graphs are not all trivial.
@@ -98,8 +98,35 @@ fn solver_agrees_on_dense_graphs() {
         let top = random.between(1, 3);
         let bound: Vec<i32> = (0..8).map(|_| random.between(1, top)).collect();
         let best = largest_weight(&graph.lend(), &bound);
-        assert_eq!(test_solved(&graph, &bound), best, "{graph:?} {bound:?}");
+        assert_eq!(test_solved(&graph, &bound).1, best, "{graph:?} {bound:?}");
     }
+}
+
+#[test]
+fn gap_against_the_solvers_prices_is_twice_the_lack() {
+    let mut random = Random::new(9);
+    let (mut subgraphs, mut lacking) = (0, 0);
+    for _ in 0..2_000 {
+        let graph = small_graph(&mut random, Kind::Bipartite);
+        let bound = bounds(&mut random, &graph);
+        let (out, best) = test_solved(&graph, &bound);
+        let graph = graph.lend();
+        for chosen in feasible_subgraphs(&graph, &bound) {
+            let found = measured(
+                &graph,
+                &bound,
+                &chosen,
+                &out.vertex_price,
+                &out.edge_price,
+                &Sets::none(),
+            )
+            .unwrap();
+            assert_eq!(found.gap, 2 * (best - found.weight));
+            subgraphs += 1;
+            lacking += u32::from(found.weight < best);
+        }
+    }
+    assert!(subgraphs > 10_000 && lacking > 5_000);
 }
 
 #[test]
@@ -112,7 +139,7 @@ fn large_graphs_have_gap_0() {
         });
         let top = random.pick(&[1, 2, 4, 16, 64]);
         let bound: Vec<i32> = (0..128).map(|_| random.between(0, top)).collect();
-        let weight = test_solved(&graph, &bound);
+        let (_, weight) = test_solved(&graph, &bound);
         assert_eq!(weight > 0, sort != 4);
     }
     // 1,024 edges of 32 by 32: every edge there is.
@@ -120,7 +147,7 @@ fn large_graphs_have_gap_0() {
         let graph = random_graph(&mut random, Kind::Bipartite, 32, 32, 1_024, |random| {
             random.between(1, 1_000_000)
         });
-        let weight = test_solved(&graph, &[top; 64]);
+        let (_, weight) = test_solved(&graph, &[top; 64]);
         let all: i64 = graph.weight.iter().map(|&w| i64::from(w)).sum();
         assert_eq!(weight == all, top == 32);
     }
@@ -151,7 +178,7 @@ fn random_sets(random: &mut Random, graph: &OwnedGraph, bound: &[i32]) -> Sets {
             continue;
         }
         if !members.is_empty() {
-            sets = sets.and(random.between(0, 8), &members, &marked);
+            sets = sets.and(random.between(0, 16), &members, &marked);
         }
     }
     sets
@@ -170,9 +197,9 @@ fn set_covers(graph: &OwnedGraph, sets: &Sets, set: usize, edge: usize) -> bool 
 }
 
 #[test]
-fn gap_is_at_least_the_lack() {
+fn gap_is_at_least_twice_the_lack() {
     let mut random = Random::new(4);
-    let (mut subgraphs, mut with_sets, mut tight) = (0, 0, 0);
+    let (mut subgraphs, mut with_sets, mut tight, mut odd) = (0, 0, 0, 0);
     for round in 0..6_000 {
         let kind = if round % 3 == 0 {
             Kind::Bipartite
@@ -190,7 +217,7 @@ fn gap_is_at_least_the_lack() {
             .collect();
         let sets = random_sets(&mut random, &graph, &bound);
         let count = sets.price.len();
-        let vertex_price: Vec<i32> = (0..n).map(|_| random.between(0, 3)).collect();
+        let vertex_price: Vec<i32> = (0..n).map(|_| random.between(0, 6)).collect();
         // Edge prices make up for what lacks of the cover.
         let mut edge_price = Vec::new();
         for edge in 0..graph.row.len() {
@@ -203,7 +230,7 @@ fn gap_is_at_least_the_lack() {
                 .filter(|&set| set_covers(&graph, &sets, set, edge))
                 .map(|set| sets.price[set])
                 .sum();
-            let lack = graph.weight[edge] - ends[0] - ends[1] - over;
+            let lack = 2 * graph.weight[edge] - ends[0] - ends[1] - over;
             edge_price.push(lack.max(0) + random.pick(&[0, 0, 0, 1]));
         }
         let best = largest_weight(&graph.lend(), &bound);
@@ -225,15 +252,16 @@ fn gap_is_at_least_the_lack() {
             let slacks = [found.vertices, found.sets, found.edges, found.cover];
             assert!(slacks.iter().all(|&slack| slack >= 0), "{found:?}");
             assert_eq!(slacks.iter().sum::<i64>(), found.gap);
-            assert_eq!(found.gap, found.total - found.weight);
+            assert_eq!(found.gap, found.total - 2 * found.weight);
             assert_eq!(*total.get_or_insert(found.total), found.total);
-            assert!(found.gap >= best - weight);
+            assert!(found.gap >= 2 * (best - weight));
             subgraphs += 1;
             with_sets += u32::from(count > 0);
-            tight += u32::from(found.gap == best - weight);
+            tight += u32::from(found.gap == 2 * (best - weight));
+            odd += u32::from(found.gap % 2 == 1);
         }
     }
-    assert!(subgraphs > 50_000 && with_sets > 20_000 && tight > 0);
+    assert!(subgraphs > 50_000 && with_sets > 20_000 && tight > 0 && odd > 10_000);
 }
 
 #[test]

@@ -563,7 +563,7 @@ fn refusal_12_over_a_bound() {
             &graph.lend(),
             bound,
             chosen,
-            &[1, 0, 0, 0, 0, 0],
+            &[2, 0, 0, 0, 0, 0],
             &[0; 5],
             &Sets::none(),
         )
@@ -590,18 +590,19 @@ fn refusal_12_over_a_bound() {
 
 #[test]
 fn refusal_13_prices() {
-    for price in ["-1", "2000001", "999999999"] {
-        let text = numbers(&format!("3 1\n2000000\n{price}\n-1\n"));
+    for price in ["-1", "4000001", "999999999"] {
+        let text = numbers(&format!("3 1\n4000000\n{price}\n-1\n"));
         assert_eq!(numbers_of(&text, 3, What::Prices), Err(refusal(13, 4)));
     }
-    let text = numbers("2 1\n2000000\n0\n");
-    assert_eq!(numbers_of(&text, 2, What::Prices), Ok(vec![2_000_000, 0]));
+    let text = numbers("3 1\n4000000\n0\n2000001\n");
+    let prices = vec![4_000_000, 0, 2_000_001];
+    assert_eq!(numbers_of(&text, 3, What::Prices), Ok(prices));
 
     // 3 vertices, 3 edges and 2 odd sets, hence 8 positions.
     let graph = triangle();
     let sets = Sets::none().and(1, &[1, 2, 3], &[]).and(0, &[1], &[]);
     for position in 0..8 {
-        for wrong in [-1, 2_000_001, i32::MIN, i32::MAX] {
+        for wrong in [-1, 4_000_001, i32::MIN, i32::MAX] {
             let mut prices = [1; 8];
             prices[position] = wrong;
             prices[7] = if position == 7 { wrong } else { -1 };
@@ -683,15 +684,15 @@ fn refusal_15_not_covered() {
     };
     let none = Sets::none();
     assert_eq!(call([0; 4], [0; 3], &none), Err(refusal(15, 2)));
-    assert_eq!(call([2, 0, 3, 2], [0; 3], &none), Err(refusal(15, 3)));
-    assert_eq!(call([2, 0, 3, 2], [0, 0, 1], &none), Ok(()));
+    assert_eq!(call([4, 0, 6, 5], [0; 3], &none), Err(refusal(15, 3)));
+    assert_eq!(call([4, 0, 6, 5], [0, 0, 1], &none), Ok(()));
     // The dam with edges 2 and 3 marked: 1 + 2 is odd.
-    let sets = Sets::none().and(5, &[1], &[2, 3]);
+    let sets = Sets::none().and(10, &[1], &[2, 3]);
     assert_eq!(call([0; 4], [0; 3], &sets), Ok(()));
-    let sets = Sets::none().and(4, &[1], &[2, 3]);
+    let sets = Sets::none().and(9, &[1], &[2, 3]);
     assert_eq!(call([0; 4], [0, 1, 0], &sets), Err(refusal(15, 3)));
     // A set that touches an edge at one end only covers it only if marked.
-    let sets = Sets::none().and(5, &[1], &[]);
+    let sets = Sets::none().and(10, &[1], &[]);
     assert_eq!(call([0; 4], [0; 3], &sets), Err(refusal(15, 2)));
 }
 

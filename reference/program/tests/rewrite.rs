@@ -232,6 +232,32 @@ fn what_the_old_rules_refuse_cannot_be_read() {
 }
 
 #[test]
+fn prices_beyond_the_old_range_are_read_and_not_rewritten() {
+    for (prices, is_rewritten) in [
+        ([0, 2_000_000], true),
+        ([2_000_000, 2_000_000], true),
+        ([0, 2_000_001], false),
+        ([2_000_001, 0], false),
+        ([3_000_000, 2_000_000], false),
+        ([0, 4_000_000], false),
+        ([4_000_000, 4_000_000], false),
+    ] {
+        let [first, second] = prices;
+        let text = numbers(&format!("2 1\n{first}\n{second}\n"));
+        assert_eq!(numbers_of(&text, 2, What::Prices), Ok(prices.to_vec()));
+        let old = numbers(&format!("02 1\n+{first}\n0{second}\n"));
+        let expected = if is_rewritten { &text[..] } else { CANNOT_READ };
+        assert_eq!(rewrite(&text), expected, "{prices:?}");
+        assert_eq!(rewrite(&old), expected, "{prices:?} in old forms");
+    }
+    let text = numbers("2 1\n0\n4000001\n");
+    assert_eq!(numbers_of(&text, 2, What::Prices), Err(refusal(13, 4)));
+    assert_eq!(old_numbers_of(&text, 2, What::Prices), Err(refusal(13, 4)));
+    let text = numbers("2 1\n0\n2000001\n");
+    assert_eq!(old_numbers_of(&text, 2, What::Prices), Err(refusal(13, 4)));
+}
+
+#[test]
 fn the_longest_texts_are_rewritten() {
     let mut old = sheet("general", "1 1 00");
     let mut new = sheet("general", "1 1 0");
@@ -261,6 +287,7 @@ fn texts() -> Vec<Vec<u8>> {
         plan("symmetric", "3 3 2\n3 2\n2 1"),
         numbers("04 1\n1\n64\n+0\n-00\n"),
         numbers("4 1\n2000000\n7\n65\n1"),
+        numbers("3 1\n4000000\n2000001\n1\n"),
     ]
 }
 
@@ -290,7 +317,7 @@ fn old_rules_take(text: &[u8]) -> bool {
 }
 
 /// Tests that the new rules read a rewritten text as the old ones read it
-/// before, and that a text which the new rules take is rewritten to itself.
+/// before, and that a text which both rules take is rewritten to itself.
 fn same_readings(old: &[u8], new: &[u8]) {
     let mut taken = graph_of(old).is_ok();
     assert_eq!(graph_of(new), old_graph_of(old));
@@ -309,12 +336,30 @@ fn same_readings(old: &[u8], new: &[u8]) {
     assert!(!taken || old == new);
 }
 
+/// Whether the new rules take a text that the old ones refuse. Tests that they
+/// do so only as prices, with one beyond the old range.
+fn has_prices_beyond(text: &[u8]) -> bool {
+    assert!(graph_of(text).is_err());
+    for graph in [case_2(), triangle()] {
+        assert!(subgraph_of(text, &graph.lend()).is_err());
+    }
+    let mut taken = false;
+    for count in 1..=12 {
+        assert!(numbers_of(text, count, What::Bounds).is_err());
+        if let Ok(prices) = numbers_of(text, count, What::Prices) {
+            assert!(prices.iter().any(|&price| price > 2_000_000));
+            taken = true;
+        }
+    }
+    taken
+}
+
 #[test]
 fn spoilt_texts_are_rewritten_exactly_if_the_old_rules_take_them() {
     let mut random = Random::new(8);
     let texts = texts();
     let bytes = b"00012345+-% \t\n\rxGg";
-    let (mut rewritten, mut unchanged, mut unreadable) = (0, 0, 0);
+    let (mut rewritten, mut unchanged, mut unreadable, mut beyond) = (0, 0, 0, 0);
     for _ in 0..6_000 {
         let mut text = texts[random.below(texts.len() as u64) as usize].clone();
         for _ in 0..random.between(0, 3) {
@@ -338,8 +383,9 @@ fn spoilt_texts_are_rewritten_exactly_if_the_old_rules_take_them() {
         match taken {
             true if found == text => unchanged += 1,
             true => rewritten += 1,
+            false if has_prices_beyond(&text) => beyond += 1,
             false => unreadable += 1,
         }
     }
-    assert!(rewritten > 500 && unchanged > 500 && unreadable > 500);
+    assert!(rewritten > 500 && unchanged > 500 && unreadable > 500 && beyond > 100);
 }

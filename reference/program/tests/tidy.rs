@@ -224,8 +224,8 @@ fn price_texts_belong_to_the_order_that_they_were_made_for() {
     let untidy = sheet("general", "1 2 2\n1 2 3\n1 1 5\n");
     let tidy = tidied(&graph_of(&untidy).unwrap().lend()).unwrap();
     assert_eq!(tidy, sheet("general", "1 2 2\n1 1 5\n1 2 3\n"));
-    // A price of 2 for the pair 1-1: the second before, the first after.
-    let prices = numbers("5 1\n3\n0\n0\n0\n2\n");
+    // A price of 4 for the pair 1-1: the second before, the first after.
+    let prices = numbers("5 1\n6\n0\n0\n0\n4\n");
     let mark = |sheet: &[u8]| {
         mark_output(&Files {
             graph: Some(sheet),

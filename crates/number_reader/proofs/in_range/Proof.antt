@@ -1,9 +1,11 @@
 -- `in_range` meets its contract: by cases on the sort.
-use mathlib.Core.Path.{sym, ap, _∙_}
+use mathlib.Core.Path.{sym, ap, ap₂, _∙_}
+use lib.IntN.{pos}
 use mir.Syntax.{w32}
 use borrow.Author.Needs.{needs}
+use Rattle.integers.specs.Integer.{between}
 use Rattle.integers.proofs.Order.{back}
-use Rattle.graph.specs.Graph.{boundInRange, priceInRange}
+use Rattle.graph.specs.Graph.{boundInRange}
 use Rattle.layout.specs.NumberText.{inRange}
 use Rattle.number_reader.proofs.in_range.Statement.{statement}
 use Rattle.number_reader.proofs.in_range.Tie as tie
@@ -12,13 +14,14 @@ returns : tie.Need-returns
 returns c =
     let start = c .before .before .before in
     c .bound-in-range .ensures ∙ ap boundInRange (back w32 (start .args .z) (start .fits .z .sfits))
-    ∙ ap (λ w. inRange w (start .args .z)) (sym (c .before .enum-told .given .1))
+    ∙ ap (λ w. inRange (start .args .rules) w (start .args .z)) (sym (c .before .enum-told .given .1))
 
 returns-2 : tie.Need-returns-2
 returns-2 c =
-    let start = c .before .before .before in
-    c .price-in-range .ensures ∙ ap priceInRange (back w32 (start .args .z) (start .fits .z .sfits))
-    ∙ ap (λ w. inRange w (start .args .z)) (sym (c .before .enum-told2 .given .1))
+    let start = c .before .before .before .before in
+    let g = c .before .greatest-price in
+    c .in-range .ensures ∙ ap₂ (between (pos 0)) (back w32 (g .result) (g .ok) ∙ g .ensures) (back w32 (start .args .z) (start .fits .z .sfits))
+    ∙ ap (λ w. inRange (start .args .rules) w (start .args .z)) (sym (c .before .before .enum-told2 .given .1))
 
 pub in-range-spec : {M : Type 1} → statement M
 in-range-spec =
@@ -27,6 +30,7 @@ in-range-spec =
     (λ c. search needs)
     (λ c κs. search needs)
     (λ c. search needs)
+    (λ c κs. search needs)
     (λ c κs. search needs)
     returns
     returns-2)

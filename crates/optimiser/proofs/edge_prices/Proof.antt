@@ -5,6 +5,7 @@ use native.Mathlib.Omega.{arith}
 use lib.IntN.{pos}
 use lib.ListN.{length}
 use Rattle.graph.specs.Graph.{graphOf}
+use Rattle.dual.specs.Gap.{halfPoints}
 use Rattle.lent.proofs.Setting.{Filling, fill-none, fill-more}
 use Rattle.tree.specs.Tree.{levels}
 use Rattle.optimiser.specs.Optimiser.{edgePriceOf}
@@ -13,7 +14,7 @@ use Rattle.optimiser.proofs.edge_prices.Tie as tie
 
 abbrev Inv-loop : tie.InvT-loop
 Inv-loop s row column weight chosen price edge₀ e₀ edge e =
-    Filling (pos 0) (λ k z. z ≡ pos (edgePriceOf (graphOf s row column weight) chosen (levels price) k)) edge₀ edge e
+    Filling (pos 0) (λ k z. z ≡ halfPoints (pos (edgePriceOf (graphOf s row column weight) chosen (levels price) k))) edge₀ edge e
 
 abbrev μ-loop : tie.MeasureT-loop
 μ-loop s row column weight chosen price edge₀ e₀ edge e = length edge₀ - e
@@ -24,6 +25,9 @@ loop-holds c = fill-none
 edge-price-of-requires : tie.Need-edge-price-of-requires Inv-loop μ-loop
 edge-price-of-requires c κs =
     let pre = c .before .before .before .before .before .pre in (pre .0, omega (arith, pre .1, c .before .loop .inv .long, c .loop-test .taken))
+
+mul-set-level : tie.Need-mul-set-level Inv-loop μ-loop
+mul-set-level c = omega (arith, c .before .edge-price-of .ensures .1)
 
 set-level-requires : tie.Need-set-level-requires Inv-loop μ-loop
 set-level-requires c κs =
@@ -47,7 +51,7 @@ loop-again c =
     let at-loop-test = c .before .before .before .before in
     let inv = at-loop-test .before .loop .inv in
     let price = c .before .before .before .edge-price-of .ensures in
-    rw (c .before .set-level .ensures) (fill-more _ inv (at-loop-test .loop-test .taken) (ap pos (price .0)))
+    rw (c .before .set-level .ensures) (fill-more _ inv (at-loop-test .loop-test .taken) (ap (λ n. halfPoints (pos n)) (price .0)))
 
 same-length : tie.Need-same-length Inv-loop μ-loop
 same-length c = c .before .loop .inv .long
@@ -66,6 +70,7 @@ edge-prices-spec =
     μ-loop
     loop-holds
     edge-price-of-requires
+    mul-set-level
     set-level-requires
     add-e
     loop-less

@@ -28,8 +28,8 @@ edge-prices-requires c κs =
     let long = serve .kept .1 .1 .1 .1 .1 .1 .1 .0 ∙ first .kept .1 .1 .1 .1 .0 ∙ lengths .0 in
     (payable (pre .0 .passed) long (serve .ensures .good), lengths .1)
 
-lower-requires : tie.Need-lower-requires
-lower-requires c κs =
+vertex-prices-requires : tie.Need-vertex-prices-requires
+vertex-prices-requires c κs =
     let at-serve-all = c .before .before .before .before .before .before .before .before .before in
     let at-first-prices = at-serve-all .before .before .before .before in
     let at-start = at-first-prices .before .before .before .before .before .before in
@@ -49,7 +49,7 @@ returns c =
     let pre = at-start .pre in
     let long = serve .kept .1 .1 .1 .1 .1 .1 .1 .0 ∙ first .kept .1 .1 .1 .1 .0 ∙ pre .1 .1 .1 .0 .0 in
     solved (pre .0) (pre .1 .1 .0) (serve .ensures .good) (serve .ensures .done)
-    (record { ofVertex = λ v l. c .before .lower .ensures v (omega (arith, long)); ofEdge = at-edge-prices .edge-prices .ensures })
+    (record { ofVertex = λ v l. c .before .vertex-prices .ensures v (omega (arith, long)); ofEdge = at-edge-prices .edge-prices .ensures })
 
 pub optimise-spec : {M : Type 1} → statement M
 optimise-spec =
@@ -58,7 +58,7 @@ optimise-spec =
     (λ c κs. search needs)
     serve-all-requires
     edge-prices-requires
-    lower-requires
+    vertex-prices-requires
     (λ c. search needs)
     (λ c. search needs)
     (λ c. search needs)

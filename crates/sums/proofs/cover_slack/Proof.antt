@@ -3,6 +3,7 @@ use Prim.Native.Nat.{_-_}
 use mathlib.Core.Path.{refl, ap, _∙_}
 use lib.IntN.{pos, _-ℤ_, _*ℤ_}
 use lib.ListN.{getD}
+use Rattle.dual.specs.Gap.{halfPoints}
 use Rattle.sums.proofs.Machine.{held-is, held-within}
 use mir.Syntax.{w64}
 use mir.Val.{toZ}
@@ -14,7 +15,7 @@ use Rattle.sums.proofs.cover_slack.Tie as tie
 
 abbrev Inv-loop : tie.InvT-loop
 Inv-loop edges weight chosen cover m total₀ e₀ total e =
-    Adding m (λ j. pos (getD chosen j 0) *ℤ (getD cover j (pos 0) -ℤ getD weight j (pos 0))) e (toZ w64 total)
+    Adding m (λ j. pos (getD chosen j 0) *ℤ (getD cover j (pos 0) -ℤ halfPoints (getD weight j (pos 0)))) e (toZ w64 total)
 
 abbrev μ-loop : tie.MeasureT-loop
 μ-loop edges weight chosen cover m total₀ e₀ total e = m - e
@@ -52,7 +53,7 @@ loop-again c =
     let r = c .add in
     let h = held-is (getD (a .t2) e (pos 0)) (excess-arg .given) in
     added (at-loop .loop .inv) (x .result) (r .result) (at-loop-test .loop-test .taken) (x .ok) (r .ok)
-    (x .ensures .0 ∙ ap (λ z. pos (getD (a .chosen .now) e 0) *ℤ (z -ℤ getD (a .weight .now) e (pos 0))) h, x .ensures .1) (r .ensures)
+    (x .ensures .0 ∙ ap (λ z. pos (getD (a .chosen .now) e 0) *ℤ (z -ℤ halfPoints (getD (a .weight .now) e (pos 0)))) h, x .ensures .1) (r .ensures)
 
 returns : tie.Need-returns Inv-loop μ-loop
 returns c =

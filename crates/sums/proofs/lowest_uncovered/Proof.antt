@@ -5,13 +5,15 @@ use lib.IntN.{pos}
 use lib.ListN.{getD}
 use lib.Signed.{leZ}
 use Rattle.checks.proofs.Scan.{Kept, kept-none, kept-more, kept-broken, kept-all}
-use Rattle.sums.proofs.Machine.{held-is}
+use Rattle.dual.specs.Gap.{halfPoints}
+use Rattle.sums.proofs.Machine.{held-is, held-within}
+use Rattle.sums.proofs.Products.{worth-is}
 use native.Mathlib.Omega.{arith}
 use Rattle.sums.proofs.lowest_uncovered.Statement.{statement}
 use Rattle.sums.proofs.lowest_uncovered.Tie as tie
 
 abbrev Inv-loop : tie.InvT-loop
-Inv-loop edges weight cover m e₀ e = Kept m (λ j. leZ (getD weight j (pos 0)) (getD cover j (pos 0))) e
+Inv-loop edges weight cover m e₀ e = Kept m (λ j. leZ (halfPoints (getD weight j (pos 0))) (getD cover j (pos 0))) e
 
 abbrev μ-loop : tie.MeasureT-loop
 μ-loop edges weight cover m e₀ e = m - e
@@ -22,30 +24,35 @@ loop-holds c = kept-none
 element-requires : tie.Need-element-requires Inv-loop μ-loop
 element-requires c κs = omega (arith, c .before .before .pre .1)
 
+half-points-requires : tie.Need-half-points-requires Inv-loop μ-loop
+half-points-requires c κs = let x = c .element in held-within (x .result) (x .ok) (x .ensures .1) (omega arith)
+
 array-copy-out-at-most : tie.Need-array-copy-out-at-most Inv-loop μ-loop
-array-copy-out-at-most c = omega (arith, c .before .before .before .pre .0)
+array-copy-out-at-most c = omega (arith, c .before .before .before .before .pre .0)
 
 loop-again : tie.Need-loop-again Inv-loop μ-loop
 loop-again c =
     let at-most-arg = c .before .before .at-most-arg in
-    let at-loop-test = c .before .before .before .before in
+    let at-loop-test = c .before .before .before .before .before in
     let at-loop = at-loop-test .before in
     let args = at-loop .before .args in
-    let x = c .before .before .before .element in
+    let x = c .before .before .before .before .element in
+    let w = c .before .before .before .half-points in
     let h = held-is (getD (args .t3) (at-loop .loop .e) (pos 0)) (at-most-arg .given) in
     kept-more (at-loop .loop .inv) (at-loop-test .loop-test .taken)
-    (sym (c .before .at-most .ensures ∙ ap₂ leZ (held-is (x .result) (x .ok) ∙ x .ensures .0) h) ∙ c .if1 .taken)
+    (sym (c .before .at-most .ensures ∙ ap₂ leZ (held-is (w .result) (w .ok) ∙ worth-is (x .result) (w .result) (x .ok) (x .ensures) (w .ensures) .0) h) ∙ c .if1 .taken)
 
 returns : tie.Need-returns Inv-loop μ-loop
 returns c =
     let at-most-arg = c .before .before .at-most-arg in
-    let at-loop-test = c .before .before .before .before in
+    let at-loop-test = c .before .before .before .before .before in
     let at-loop = at-loop-test .before in
     let args = at-loop .before .args in
-    let x = c .before .before .before .element in
+    let x = c .before .before .before .before .element in
+    let w = c .before .before .before .half-points in
     let h = held-is (getD (args .t3) (at-loop .loop .e) (pos 0)) (at-most-arg .given) in
     kept-broken (at-loop .loop .inv) (at-loop-test .loop-test .taken)
-    (sym (c .before .at-most .ensures ∙ ap₂ leZ (held-is (x .result) (x .ok) ∙ x .ensures .0) h) ∙ c .if1 .left)
+    (sym (c .before .at-most .ensures ∙ ap₂ leZ (held-is (w .result) (w .ok) ∙ worth-is (x .result) (w .result) (x .ok) (x .ensures) (w .ensures) .0) h) ∙ c .if1 .left)
 
 returns-2 : tie.Need-returns-2 Inv-loop μ-loop
 returns-2 c = kept-all (c .before .loop .inv) (c .loop-test .left)
@@ -58,6 +65,7 @@ lowest-uncovered-spec =
     μ-loop
     loop-holds
     element-requires
+    half-points-requires
     (λ c. omega arith)
     array-copy-out-at-most
     (λ c κs. tt)

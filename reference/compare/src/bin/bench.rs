@@ -98,7 +98,7 @@ fn graph_readers() {
 fn number_readers() {
     for (what, name, count, most) in [
         (What::Bounds, "bounds", 128, 64),
-        (What::Prices, "prices", 1152, 2_000_000),
+        (What::Prices, "prices", 1152, 4_000_000),
     ] {
         let mut random = Random::new(5);
         let mut numbers = || {
@@ -148,9 +148,9 @@ fn measures() {
     for (edges, sets) in [(256, 16), (1024, 0), (1024, 4), (1024, 16)] {
         let mut random = Random::new(2);
         let inputs: Vec<_> = (0..101).map(|_| sheet(&mut random, 64, edges)).collect();
-        let vertex = vec![1_000_000; 128];
+        let vertex = vec![2_000_000; 128];
         let edge = vec![0; 1024];
-        let price = vec![1; sets];
+        let price = vec![2; sets];
         let mut set_vertices = vec![0u64; 2 * sets];
         let set_edges = vec![0u64; 16 * sets];
         for s in 0..sets {

@@ -1,18 +1,19 @@
--- `optimiser::lower` meets its contract: the prices before v have the level taken off.
-use Prim.Native.Nat.{_-_}
+-- `optimiser::vertex_prices` meets its contract: the prices before v have the level taken off, and are in half points.
+use Prim.Native.Nat.{_*_, _-_, _^_, _<_}
 use mathlib.Core.Path.{_≡_, ap, _∙_}
 use native.Mathlib.Omega.{arith}
 use lib.IntN.{pos}
 use lib.ListN.{length}
 use Rattle.integers.specs.Integer.{up}
+use Rattle.dual.specs.Gap.{halfPoints}
 use Rattle.tree.specs.Method.{level}
 use Rattle.tree.specs.Tree.{levels}
 use Rattle.lent.proofs.Setting.{Filling, fill-none, fill-more}
-use Rattle.optimiser.proofs.lower.Statement.{statement}
-use Rattle.optimiser.proofs.lower.Tie as tie
+use Rattle.optimiser.proofs.vertex_prices.Statement.{statement}
+use Rattle.optimiser.proofs.vertex_prices.Tie as tie
 
 abbrev Inv-loop : tie.InvT-loop
-Inv-loop price₀ v₀ price v = Filling (pos 0) (λ k z. z ≡ pos (levels price₀ k - level)) price₀ price v
+Inv-loop price₀ v₀ price v = Filling (pos 0) (λ k z. z ≡ halfPoints (pos (levels price₀ k - level))) price₀ price v
 
 abbrev μ-loop : tie.MeasureT-loop
 μ-loop price₀ v₀ price v = length price₀ - v
@@ -33,15 +34,22 @@ sub-k c =
     let test = c .before .before .loop-test .taken in
     omega (arith, c .natural-at .ensures, old, pre .least v (omega (arith, inv .long, test)))
 
-set-level-requires : tie.Need-set-level-requires Inv-loop μ-loop
-set-level-requires c κs =
+-- The price that is set is small.
+small : (c : tie.After-set-level-arg Inv-loop μ-loop) → 2 * (c .before .natural-at .result - level) < 2 ^ 31
+small c =
     let at-loop = c .before .before .before .before in
     let pre = at-loop .before .pre in
     let inv = at-loop .loop .inv in
     let v = at-loop .loop .v in
     let old = ap up (inv .rest v (omega arith)) in
     let test = c .before .before .before .loop-test .taken in
-    (test, omega (arith, c .before .natural-at .ensures, old, pre .most v (omega (arith, inv .long, test))))
+    omega (arith, c .before .natural-at .ensures, old, pre .most v (omega (arith, inv .long, test)))
+
+mul-set-level : tie.Need-mul-set-level Inv-loop μ-loop
+mul-set-level c = omega (arith, small c)
+
+set-level-requires : tie.Need-set-level-requires Inv-loop μ-loop
+set-level-requires c κs = (c .before .before .before .loop-test .taken, omega (arith, small c))
 
 add-v : tie.Need-add-v Inv-loop μ-loop
 add-v c =
@@ -63,7 +71,7 @@ loop-again c =
     let v = loop .v in
     let old = ap up (inv .rest v (omega arith)) in
     let test = at-natural-at .before .before .loop-test .taken in
-    rw (c .before .set-level .ensures) (fill-more _ inv test (ap (λ n. pos (n - level)) (at-natural-at .natural-at .ensures ∙ old)))
+    rw (c .before .set-level .ensures) (fill-more _ inv test (ap (λ n. halfPoints (pos (n - level))) (at-natural-at .natural-at .ensures ∙ old)))
 
 same-length : tie.Need-same-length Inv-loop μ-loop
 same-length c = c .before .loop .inv .long
@@ -73,8 +81,8 @@ returns c =
     let inv = c .before .loop .inv in
     λ k l. inv .each k (omega (arith, inv .long, c .loop-test .left))
 
-pub lower-spec : {M : Type 1} → statement M
-lower-spec =
+pub vertex-prices-spec : {M : Type 1} → statement M
+vertex-prices-spec =
     tie.close
     (tie.spec
     Inv-loop
@@ -82,6 +90,7 @@ lower-spec =
     loop-holds
     natural-at-requires
     sub-k
+    mul-set-level
     set-level-requires
     add-v
     loop-less
