@@ -36,24 +36,21 @@ module _ {g : Graph} {x : List ℕ} {rank : ℕ → ℕ} where
   by-rank : {near far : Graph → ℕ → ℕ} {j k d e h v : ℕ} → Link g x near far rank j d h → Link g x near far rank k e v → rank h < rank v → d ≢ e
   by-rank {near = near} l r b q = omega (arith, ap rank (sym (l .end) ∙ ap (near g) q ∙ r .end))
 
-module _ {s : Shape} {root v : ℕ} {row column label rank x : List ℕ} (r : Walkable s row column label rank root v x) (ne : v ≢ root) where
+module _ {s : Shape} {root v left : ℕ} {row column label x : List ℕ} {rank : ℕ → ℕ} (r : Walkable s row column label rank root v left x) (ne : v ≢ root) where
   abbrev g : Graph
   g = graphOf s row column []
 
   abbrev edge : ℕ
   edge = entries label v
 
-  abbrev ranked : ℕ → ℕ
-  ranked = entries rank
-
   abbrev labelled : ℕ → ℕ
   labelled = entries label
 
   -- The label of a row vertex is a chosen edge, and that of a column vertex is not.
-  row-link : v < g .rows → Link g x firstEnd secondEnd ranked 1 edge v
+  pub row-link : v < g .rows → Link g x firstEnd secondEnd rank 1 edge v
   row-link l = r .labels .of-row v l ne (r .seen) (omega arith)
 
-  column-link : g .rows ≤ v → Link g x secondEnd firstEnd ranked 0 edge v
+  pub column-link : g .rows ≤ v → Link g x secondEnd firstEnd rank 0 edge v
   column-link l = r .labels .of-column v l (r .inside) (r .seen) (omega arith)
 
   pub edge-in : edge < s .edges
@@ -66,13 +63,13 @@ module _ {s : Shape} {root v : ℕ} {row column label rank x : List ℕ} (r : Wa
   ]
 
   -- The label of a vertex of lower rank is another edge.
-  row-other : {d h : ℕ} → Link g x firstEnd secondEnd ranked 1 d h → ranked h < ranked v → d ≢ edge
+  row-other : {d h : ℕ} → Link g x firstEnd secondEnd rank 1 d h → rank h < rank v → d ≢ edge
   row-other k b = elim (decLt v (g .rows)) [
     | yes l ↦ by-rank k (row-link l) b
     | no l ↦ by-mark k (column-link (omega (arith, l))) (λ q. omega (arith, q))
   ]
 
-  column-other : {d h : ℕ} → Link g x secondEnd firstEnd ranked 0 d h → ranked h < ranked v → d ≢ edge
+  column-other : {d h : ℕ} → Link g x secondEnd firstEnd rank 0 d h → rank h < rank v → d ≢ edge
   column-other k b = elim (decLt v (g .rows)) [
     | yes l ↦ by-mark k (row-link l) (λ q. omega (arith, q))
     | no l ↦ by-rank k (column-link (omega (arith, l))) b
@@ -81,10 +78,10 @@ module _ {s : Shape} {root v : ℕ} {row column label rank x : List ℕ} (r : Wa
   -- The edge is flipped, and w is its other end.
   module _ {y : List ℕ} {w : ℕ} (f : y ≡ flipped x edge) (o : w ≡ otherEnd g edge v) where
     -- From a row vertex, and from a column vertex.
-    row-next : v < g .rows → secondEnd g edge ≡ w
+    pub row-next : v < g .rows → secondEnd g edge ≡ w
     row-next l = sym (o ∙ if-same (secondEnd g edge) (firstEnd g edge) (sym (row-link l .end)))
 
-    column-next : g .rows ≤ v → firstEnd g edge ≡ w
+    pub column-next : g .rows ≤ v → firstEnd g edge ≡ w
     column-next l =
         let past : v ≢ firstEnd g edge = λ q. omega (arith, q, l, r .sound .ends edge edge-in .inRows) in
         sym (o ∙ if-other (secondEnd g edge) (firstEnd g edge) past)
@@ -106,25 +103,24 @@ module _ {s : Shape} {root v : ℕ} {row column label rank x : List ℕ} (r : Wa
     next-long = ap length f ∙ length-set x edge (1 - markAt x edge)
 
     -- The walk comes nearer to the root.
-    pub falls : ranked w < ranked v
+    pub falls : rank w < rank v
     falls = elim (decLt v (g .rows)) [
-      | yes l ↦ omega (arith, row-link l .less, ap ranked (row-next l))
-      | no l ↦ omega (arith, column-link (omega (arith, l)) .less, ap ranked (column-next (omega (arith, l))))
+      | yes l ↦ omega (arith, row-link l .less, ap rank (row-next l))
+      | no l ↦ omega (arith, column-link (omega (arith, l)) .less, ap rank (column-next (omega (arith, l))))
     ]
 
-    next-labels : Labels g y labelled ranked root (ranked w)
+    next-labels : Labels g y labelled rank root (rank w)
     next-labels = rw f (record {
       of-row = λ h b n s le. let k = r .labels .of-row h b n s (omega (arith, falls)) in other edge k (row-other k (omega (arith, falls)));
       of-column = λ h a b s le. let k = r .labels .of-column h a b s (omega (arith, falls)) in other edge k (column-other k (omega (arith, falls)));
     })
 
-    -- It can go on.
-    pub goes-on : Walkable s row column label rank root w y
-    goes-on = record {
+    -- It can go on, with one label less left.
+    pub goes-on : {left′ : ℕ} → left ≤ left′ + 1 → Walkable s row column label rank root w left′ y
+    goes-on few = record {
       bipartite = r .bipartite;
       sound = r .sound;
       long = next-long ∙ r .long;
-      label-long = r .label-long;
       labels = next-labels;
       root-in = r .root-in;
       inside = elim (decLt v (g .rows)) [
@@ -132,9 +128,10 @@ module _ {s : Shape} {root v : ℕ} {row column label rank x : List ℕ} (r : Wa
         | no l ↦ omega (arith, column-next (omega (arith, l)), r .sound .ends edge edge-in .first)
       ];
       seen = elim (decLt v (g .rows)) [
-        | yes l ↦ omega (arith, ap ranked (row-next l), row-link l .seen)
-        | no l ↦ omega (arith, ap ranked (column-next (omega (arith, l))), column-link (omega (arith, l)) .seen)
+        | yes l ↦ omega (arith, ap rank (row-next l), row-link l .seen)
+        | no l ↦ omega (arith, ap rank (column-next (omega (arith, l))), column-link (omega (arith, l)) .seen)
       ];
+      low = omega (arith, r .low, falls);
     }
 
     next-marks : ((e : ℕ) → markAt x e ≤ 1) → (e : ℕ) → markAt y e ≤ 1
@@ -150,7 +147,7 @@ module _ {s : Shape} {root v : ℕ} {row column label rank x : List ℕ} (r : Wa
     next-kept e n = ap (λ (z : List ℕ). markAt z e) f ∙ getD-set-other x edge e (1 - markAt x edge) 0 n
 
     -- The flip, and then the walk from the edge's other end.
-    pub whole : {z : List ℕ} → Augmented g labelled ranked root w y z → Augmented g labelled ranked root v x z
+    pub whole : {z : List ℕ} → Augmented g labelled rank root w y z → Augmented g labelled rank root v x z
     whole a = record {
       long = a .long ∙ next-long;
       from-row = λ l h.

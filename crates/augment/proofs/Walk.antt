@@ -1,5 +1,5 @@
 -- What the loop of the walk back keeps, from its start to the root.
-use Prim.Native.Nat.{ℕ, _+_}
+use Prim.Native.Nat.{ℕ, _+_, _≤_}
 use mathlib.Core.Path.{_≡_, refl, ap}
 use mathlib.Core.Logic.{_≢_}
 use mathlib.Core.List.{List, []}
@@ -13,27 +13,27 @@ use Rattle.tree.specs.Tree.{entries}
 use Rattle.augment.specs.Augment.{Walkable, flipped, otherEnd}
 use Rattle.augment.proofs.Step.{goes-on, whole}
 
-module _ (s : Shape) (row column label rank : List ℕ) (root : ℕ) where
+module _ (s : Shape) (row column label : List ℕ) (rank : ℕ → ℕ) (root : ℕ) where
   -- The subgraph y is x after the walk back from vertex v.
   abbrev pub Walked : ℕ → List ℕ → List ℕ → Type 0
-  Walked v x y = Augmented (graphOf s row column []) (entries label) (entries rank) root v x y
+  Walked v x y = Augmented (graphOf s row column []) (entries label) rank root v x y
 
   -- The walk from v, that started with the marks x, has come to vertex u and the marks y: it can go on from there, and the rest of it makes the whole walk.
-  pub record Walking (v : ℕ) (x : List ℕ) (u : ℕ) (y : List ℕ) : Type 0 where
-    pub walkable : Walkable s row column label rank root u y
+  pub record Walking (v : ℕ) (x : List ℕ) (u left : ℕ) (y : List ℕ) : Type 0 where
+    pub walkable : Walkable s row column label rank root u left y
     pub rest : (z : List ℕ) → Walked u y z → Walked v x z
 
-module _ {s : Shape} {root v : ℕ} {row column label rank x : List ℕ} where
+module _ {s : Shape} {root v : ℕ} {row column label x : List ℕ} {rank : ℕ → ℕ} where
   -- At its start.
-  pub begun : Walkable s row column label rank root v x → Walking s row column label rank root v x v x
+  pub begun : {left : ℕ} → Walkable s row column label rank root v left x → Walking s row column label rank root v x v left x
   begun r = record { walkable = r; rest = λ z a. a }
 
-  module _ {u : ℕ} {y : List ℕ} (t : Walking s row column label rank root v x u y) where
+  module _ {u left : ℕ} {y : List ℕ} (t : Walking s row column label rank root v x u left y) where
     -- After one more edge.
-    pub stepped : {w : ℕ} {z : List ℕ} → u ≢ root → z ≡ flipped y (entries label u) → w ≡ otherEnd (graphOf s row column []) (entries label u) u →
-        Walking s row column label rank root v x w z
-    stepped ne f o = record {
-      walkable = goes-on (t .walkable) ne f o;
+    pub stepped : {w left′ : ℕ} {z : List ℕ} → u ≢ root → z ≡ flipped y (entries label u) → w ≡ otherEnd (graphOf s row column []) (entries label u) u →
+        left ≤ left′ + 1 → Walking s row column label rank root v x w left′ z
+    stepped ne f o few = record {
+      walkable = goes-on (t .walkable) ne f o few;
       rest = λ z a. t .rest z (whole (t .walkable) ne f o a);
     }
 

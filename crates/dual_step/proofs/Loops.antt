@@ -1,78 +1,97 @@
--- The two loops of a dual step: the search for the vertex that limits it, and the change of the prices.
-use Prim.Native.Nat.{ℕ, _+_, _-_, _≤_, _<_}
-use mathlib.Core.Path.{_≡_, refl, ap, _∙_, subst}
+-- What the loops of the dual step keep.
+use Prim.Native.Nat.{ℕ, _+_, _*_, _-_, _≤_, _<_}
+use mathlib.Core.Path.{_≡_, refl, sym, ap, _∙_, subst}
+use mathlib.Core.Logic.{_≢_, _⊎_, inl, inr, ⊎-elim}
+use mathlib.Core.Bool.{Bool, true, false, cond}
 use mathlib.Core.List.{List}
 use native.Mathlib.Omega.{arith}
-use lib.IntN.{ℤ, pos}
-use lib.ListN.{length, set}
-use Rattle.integers.specs.Integer.{up}
-use Rattle.graph.proofs.Passing.{up-to}
-use Rattle.lent.proofs.Setting.{Filling, fill-more}
+use native.Mathlib.Decide.{ℕ-discrete}
+use lib.Dec.{ltb}
+use lib.ListN.{length, set, length-set}
+use lib.Seq.{getD-set-same, getD-set-other}
+use borrow.Author.Tests.{ltb-true, ltb-false}
+use Rattle.graph.specs.Limits.{mostVertices}
 use Rattle.tree.specs.Method.{level}
-use Rattle.tree.specs.Tree.{levels, Nearest, Move, Moved}
-use Rattle.dual_step.specs.Step.{far, Distance}
+use Rattle.tree.specs.Tree.{entries}
+use Rattle.tree.specs.Front.{Nearest, Shift, Shifted}
+use Rattle.dual_step.specs.Step.{NearestAt, Movable}
 
-module _ {rows n : ℕ} {gap price rank near : ℕ → ℕ} where
-  pub nearest-root : {by root : ℕ} → root < rows → rows ≤ n → 0 < rank root → by + level ≡ price root → Nearest rows n gap price rank near 0 by root
-  nearest-root l r s e = record {
-    low = λ w b. absurd (omega arith);
-    new = λ w b. absurd (omega arith);
-    inside = omega arith;
-    at-row = λ t. (l, e);
-    at-new = λ z. absurd (omega arith);
+-- Before the first open vertex, none is found.
+pub nearest-none : {dist order : ℕ → ℕ} {count reached most : ℕ} → Nearest dist order count reached most count reached most
+nearest-none = record { low = λ i a b. absurd (omega arith); found = inl (refl, refl) }
+
+-- One vertex more, which is nearer or is not.
+pub nearest-more : (nearer : Bool) {dist order : ℕ → ℕ} {count reached most i place best place′ best′ : ℕ} → nearer ≡ ltb (dist (order i)) best → count ≤ i →
+    i < reached → place′ ≡ cond nearer i place → best′ ≡ cond nearer (dist (order i)) best → Nearest dist order count reached most i place best
+    → Nearest dist order count reached most (i + 1) place′ best′
+nearest-more nearer {dist} {order} {count} {reached} {most} {i} {place} {best} {place′} {best′} t a b p q n = go nearer t p q
+  where
+    next : {k : ℕ} → k ≤ best → k ≤ dist (order i) → (j : ℕ) → count ≤ j → j < i + 1 → k ≤ dist (order j)
+    next l m j c d = elim (ℕ-discrete j i) [ yes e ↦ omega (arith, ap (λ j. dist (order j)) e) | no e ↦ omega (arith, n .low j c (omega (arith, e))) ]
+
+    Found : ℕ → ℕ → Type 0
+    Found place best = ((place ≡ reached) × (best ≡ most)) ⊎ ((count ≤ place) × (place < reached) × (best < most) × (best ≡ dist (order place)))
+
+    high : best ≤ most
+    high = ⊎-elim (λ f. omega (arith, f .1)) (λ f. omega (arith, f .2)) (n .found)
+
+    go : (nearer : Bool) → nearer ≡ ltb (dist (order i)) best → place′ ≡ cond nearer i place → best′ ≡ cond nearer (dist (order i)) best →
+        Nearest dist order count reached most (i + 1) place′ best′
+    go true t p q =
+        let l = ltb-true (dist (order i)) best (sym t) in
+        record {
+          low = next (omega (arith, q, l)) (omega (arith, q));
+          found = subst (λ k. Found k best′) (sym p) (subst (λ k. Found i k) (sym q) (inr (a, b, omega (arith, l, high), refl)));
+        }
+    go false t p q =
+        let l = ltb-false (dist (order i)) best (sym t) in
+        record {
+          low = next (omega (arith, q)) (omega (arith, q, l));
+          found = subst (λ k. Found k best′) (sym p) (subst (λ k. Found place k) (sym q) (n .found));
+        }
+
+-- After the last one.
+pub nearest-end : {dist order : ℕ → ℕ} {count reached most i place best : ℕ} → reached ≤ i → Nearest dist order count reached most i place best →
+    NearestAt dist order count reached most place
+nearest-end {best = best} l n = record { best = best; nearest = record { low = λ j a b. n .low j a (omega arith); found = n .found } }
+
+-- The first k vertices of the list have moved.
+pub record Moving (rows : ℕ) (order dist : ℕ → ℕ) (old new : List ℕ) (most k : ℕ) : Type 0 where
+  pub long : length new ≡ mostVertices
+  pub each : (i : ℕ) → i < k → Shift rows (order i) (most - dist (order i)) (entries old (order i)) (entries new (order i))
+  pub rest : (v : ℕ) → ((i : ℕ) → i < k → order i ≢ v) → entries new v ≡ entries old v
+
+pub moving-none : {rows : ℕ} {order dist : ℕ → ℕ} {price : List ℕ} {most : ℕ} → length price ≡ mostVertices → Moving rows order dist price price most 0
+moving-none full = record { long = full; each = λ i l. absurd (omega arith); rest = λ v n. refl }
+
+module _ {rows : ℕ} {order dist : ℕ → ℕ} {old price : List ℕ} {count most k : ℕ} (h : Movable rows order dist (entries old) count most) (l : k < count)
+    (m : Moving rows order dist old price most k) where
+  -- The next one has not.
+  still : entries price (order k) ≡ entries old (order k)
+  still = m .rest (order k) (λ i b e. omega (arith, h .once i k (omega arith) l e))
+
+  pub may-fall : order k < rows → most - dist (order k) ≤ entries price (order k)
+  may-fall r = omega (arith, still, h .room k l r)
+
+  pub still-under : entries price (order k) ≤ 2 * level
+  still-under = omega (arith, still, h .under k l)
+
+  pub moving-more : {q : ℕ} → Shift rows (order k) (most - dist (order k)) (entries price (order k)) q →
+      Moving rows order dist old (set price (order k) q) most (k + 1)
+  moving-more {q} s = record {
+    long = length-set price (order k) q ∙ m .long;
+    each = λ i b. elim (ℕ-discrete i k) [
+      | yes e ↦
+          subst (λ i. Shift rows (order i) (most - dist (order i)) (entries old (order i)) (entries (set price (order k) q) (order i))) (sym e)
+          (subst (λ p. Shift rows (order k) (most - dist (order k)) (entries old (order k)) p) (sym (getD-set-same price (order k) q 0 (omega (arith, h .inside k l, m .long))))
+          (subst (λ p. Shift rows (order k) (most - dist (order k)) p q) still s))
+      | no e ↦
+          subst (λ p. Shift rows (order i) (most - dist (order i)) (entries old (order i)) p)
+          (sym (getD-set-other price (order k) (order i) q 0 (λ f. e (h .once i k (omega (arith, e)) l f)))) (m .each i (omega (arith, e)))
+    ];
+    rest = λ v n. getD-set-other price (order k) v q 0 (λ f. n k (omega arith) (sym f)) ∙ m .rest v (λ i b. n i (omega arith));
   }
 
-  module _ {k by v d : ℕ} (s : Nearest rows n gap price rank near k by v) (here : Distance rows gap price rank near k d) where
-    pub nearest-keep : by ≤ d → Nearest rows n gap price rank near (k + 1) by v
-    nearest-keep h = record {
-      low = λ w b. up-to {P = λ w. w < rows → 0 < rank w → by + level ≤ price w} {n = k} (s .low) (λ l t. omega (arith, here .low l t)) w (omega arith);
-      new = λ w b. up-to {P = λ w. rank w ≡ 0 → 0 < near w → by ≤ gap (near w - 1)} {n = k} (s .new) (λ z t. omega (arith, here .new z t)) w (omega arith);
-      inside = s .inside;
-      at-row = s .at-row;
-      at-new = s .at-new;
-    }
-
-    pub nearest-take : k < n → by ≤ far → d < by → Nearest rows n gap price rank near (k + 1) d k
-    nearest-take l f h = record {
-      low = λ w b. up-to {P = λ w. w < rows → 0 < rank w → d + level ≤ price w} {n = k} (λ w b r t. omega (arith, s .low w b r t))
-          (λ r t. omega (arith, here .low r t)) w (omega arith);
-      new = λ w b. up-to {P = λ w. rank w ≡ 0 → 0 < near w → d ≤ gap (near w - 1)} {n = k} (λ w b z t. omega (arith, s .new w b z t))
-          (λ z t. omega (arith, here .new z t)) w (omega arith);
-      inside = l;
-      at-row = λ t. (here .counts (omega arith) .0 t, here .low (here .counts (omega arith) .0 t) t);
-      at-new = λ z. (here .counts (omega arith) .1 z, here .new z (here .counts (omega arith) .1 z));
-    }
-
-  pub nearest-end : {k by v : ℕ} → Nearest rows n gap price rank near k by v → n ≤ k → Nearest rows n gap price rank near n by v
-  nearest-end s h = record {
-    low = λ w l. s .low w (omega arith);
-    new = λ w l. s .new w (omega arith);
-    inside = s .inside;
-    at-row = s .at-row;
-    at-new = s .at-new;
-  }
-
-  -- No vertex allows less than no step.
-  pub nearest-none : {k by v : ℕ} → Nearest rows n gap price rank near k by v → by ≡ 0 → ((w : ℕ) → w < n → level ≤ price w)
-      → Nearest rows n gap price rank near n by v
-  nearest-none s z least = record {
-    low = λ w l r t. omega (arith, z, least w l);
-    new = λ w l t b. omega (arith, z);
-    inside = s .inside;
-    at-row = s .at-row;
-    at-new = s .at-new;
-  }
-
--- A step by 0 moves no price.
-pub moves-none : {rows n by : ℕ} {rank price : ℕ → ℕ} → by ≡ 0 → Moved rows n by rank price price
-moves-none z = record { each = λ v l. record { row = λ r s. omega (arith, z); column = λ r s. omega (arith, z); other = λ s. refl } }
-
--- What the change of the prices makes of each.
-abbrev pub Moves : ℕ → ℕ → (ℕ → ℕ) → List ℤ → ℕ → ℤ → Type 0
-Moves rows by rank old v z = Move rows by v (rank v) (levels old v) (up z)
-
--- The price of vertex k, which still is p, moves to q.
-pub moves-next : {rows by k p q : ℕ} {rank : ℕ → ℕ} {old price : List ℤ} → Filling (pos 0) (Moves rows by rank old) old price k → k < length price →
-    p ≡ levels price k
-    → Move rows by k (rank k) p q → Filling (pos 0) (Moves rows by rank old) old (set price k (pos q)) (k + 1)
-moves-next {rows} {by} {k} {q = q} {rank} f l i m = fill-more (pos q) f l (subst (λ n. Move rows by k (rank k) n q) (i ∙ ap up (f .rest k (omega arith))) m)
+pub moving-end : {rows : ℕ} {order dist : ℕ → ℕ} {old price : List ℕ} {most k count : ℕ} → k ≡ count → Moving rows order dist old price most k →
+    Shifted rows order dist (entries old) (entries price) count most
+moving-end e m = record { each = λ i l. m .each i (omega (arith, e)); rest = λ v n. m .rest v (λ i l. n i (omega (arith, e))) }

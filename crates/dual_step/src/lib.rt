@@ -1,115 +1,80 @@
-// The dual step: what limits it, and how prices move.
+// The dual step: the nearest open vertex is settled; when the search is left, the prices move, once for all settled vertices.
 use graph::MOST_VERTICES;
-use graph::Shape;
-use tree::LEVEL;
-ghost use Prim.Native.Nat.{ℕ, _*_, _≤_, _<_};
+use tree::MOST_LISTED;
+use tree::pick;
+ghost use Prim.Native.Nat.{_+_, _*_, _≤_, _<_};
+ghost use mathlib.Core.Path.{_≡_};
 ghost use lib.ListN.{length};
 ghost use Rattle.graph.specs.Limits.{mostVertices};
-ghost use Rattle.graph.specs.Graph.{graphOf, verticesIn};
-ghost use Rattle.tree.specs.Method.{level, Solvable};
-ghost use Rattle.tree.specs.Tree.{entries, levels, Levelled, NotedInside, slack, Nearest, Move, Moved};
-ghost use Rattle.dual_step.specs.Step.{Distance};
+ghost use Rattle.tree.specs.Method.{level};
+ghost use Rattle.tree.specs.Tree.{entries};
+ghost use Rattle.tree.specs.Front.{Shift, Shifted};
+ghost use Rattle.dual_step.specs.Step.{Searchable, NearestAt, Settles, Movable};
 
-// More than any slack and any price.
-const FAR: u32 = 4000000000;
-
-// How far vertex w lets the dual step go.
-fn distance(
-    s: Shape,
-    row: &[u32],
-    column: &[u32],
-    weight: &[i32],
-    price: &[i32],
-    rank: &[u32; MOST_VERTICES],
-    near: &[u32; MOST_VERTICES],
-    w: usize,
-) -> u32
-    requires { ⌜ Solvable (graphOf s (now row) (now column) (now weight)) ⌝ }
-    requires { ⌜ Levelled (verticesIn s) (now price) × NotedInside (s .edges) (entries (now rank)) (entries (now near)) ⌝ }
-    requires { ⌜ w < verticesIn s ⌝ }
-    ensures { λ r. ⌜ Distance (s .rows) (slack (graphOf s (now (row .entry)) (now (column .entry)) (now (weight .entry))) (levels (now (price .entry)))) (levels (now (price .entry))) (entries (now (rank .entry))) (entries (now (near .entry))) w r ⌝ }
-{
-    if rank[w] > 0 {
-        if w < s.rows as usize {
-            return integers::natural_at(price, w) - LEVEL;
-        }
-        return FAR;
-    }
-    let noted = near[w];
-    if noted == 0 {
-        return FAR;
-    }
-    let e = (noted - 1) as usize;
-    tree::slack_at(s, row, column, weight, price, e)
-}
-
-// By how much the dual step goes, and the vertex that limits it.
-pub struct Limit {
-    pub by: u32,
-    pub vertex: usize,
-}
-
-// The vertex that limits the dual step, by its price or by the edge noted for it. None limits it more than one that allows no step at all.
+// The place of the nearest open vertex, if one is nearer than most; else the place after the last one reached.
 pub fn nearest(
-    s: Shape,
-    row: &[u32],
-    column: &[u32],
-    weight: &[i32],
-    price: &[i32],
-    rank: &[u32; MOST_VERTICES],
-    near: &[u32; MOST_VERTICES],
-    root: usize,
-) -> Limit
-    requires { ⌜ Solvable (graphOf s (now row) (now column) (now weight)) ⌝ }
-    requires { ⌜ Levelled (verticesIn s) (now price) × NotedInside (s .edges) (entries (now rank)) (entries (now near)) ⌝ }
-    requires { ⌜ (root < s .rows) × (0 < entries (now rank) root) ⌝ }
-    ensures { λ r. ⌜ Nearest (s .rows) (verticesIn s) (slack (graphOf s (now (row .entry)) (now (column .entry)) (now (weight .entry))) (levels (now (price .entry)))) (levels (now (price .entry))) (entries (now (rank .entry))) (entries (now (near .entry))) (verticesIn s) (r .by) (r .vertex) × (r .by ≤ level) ⌝ }
+    distance: &[u32; MOST_VERTICES],
+    order: &[u32; MOST_LISTED],
+    count: u32,
+    reached: u32,
+    most: u32,
+) -> u32
+    requires { ⌜ Searchable (entries (now order)) count reached ⌝ }
+    ensures { λ place. ⌜ NearestAt (entries (now (distance .entry))) (entries (now (order .entry))) count reached most place ⌝ }
 {
-    let mut by = integers::natural_at(price, root) - LEVEL;
-    let mut vertex = root;
-    let mut w = 0;
-    while w < price.len() {
-        if by == 0 {
-            return Limit { by, vertex };
-        }
-        let d = distance(s, row, column, weight, price, rank, near, w);
-        if d < by {
-            by = d;
-            vertex = w;
-        }
-        w += 1;
+    let mut best = most;
+    let mut place = reached;
+    let mut i = count;
+    while i < reached {
+        let v = order[i as usize] as usize;
+        let d = distance[v];
+        let nearer = d < best;
+        place = pick(nearer, i, place);
+        best = pick(nearer, d, best);
+        i += 1;
     }
-    Limit { by, vertex }
+    place
 }
 
-// The price of vertex v after a dual step.
-fn moved(rows: u32, by: u32, v: usize, rank: u32, price: u32) -> u32
-    requires { ⌜ (v < rows → 0 < rank → by ≤ price) × (price ≤ 2 * level) × (by ≤ level) ⌝ }
-    ensures { λ r. ⌜ Move rows by v rank price r × (r ≤ 3 * level) ⌝ }
+// Settles the vertex at this place of the list: it becomes the last of those settled.
+pub fn settle(order: &mut [u32; MOST_LISTED], place: u32, count: u32) -> u32
+    requires { ⌜ (place < mostVertices) × (count < mostVertices) ⌝ }
+    ensures { λ v. ⌜ Settles (now (order .entry)) (now (order .exit)) place count v ⌝ }
 {
-    if rank == 0 {
-        return price;
-    }
-    if v < rows as usize {
-        return price - by;
-    }
-    price + by
+    let v = order[place as usize];
+    let other = order[count as usize];
+    order[place as usize] = other;
+    order[count as usize] = v;
+    v
 }
 
-// The dual step: labelled row vertices go down, labelled column vertices up. A step by 0 moves nothing.
-pub fn dual_step(price: &mut [i32], rank: &[u32; MOST_VERTICES], rows: u32, by: u32)
-    requires { ⌜ (length (now price) ≤ mostVertices) × (by ≤ level) ⌝ }
-    requires { ⌜ ((v : ℕ) → v < length (now price) → levels (now price) v ≤ 2 * level) ⌝ }
-    requires { ⌜ ((v : ℕ) → v < length (now price) → v < rows → 0 < entries (now rank) v → by ≤ levels (now price) v) ⌝ }
-    ensures { λ _. ⌜ Moved rows (length (now (price .entry))) by (entries (now (rank .entry))) (levels (now (price .entry))) (levels (now (price .exit))) ⌝ }
+// The price of vertex v once it has moved: down for a row vertex, and up for a column vertex.
+fn moved(rows: u32, by: u32, v: u32, price: u32) -> u32
+    requires { ⌜ (v < rows → by ≤ price) × (price ≤ 2 * level) × (by ≤ level) ⌝ }
+    ensures { λ r. ⌜ Shift rows v by price r ⌝ }
 {
-    if by == 0 {
-        return;
-    }
-    let mut v = 0;
-    while v < price.len() {
-        let next = moved(rows, by, v, rank[v], integers::natural_at(price, v));
-        tree::set_level(price, v, next);
-        v += 1;
+    if v < rows { price - by } else { price + by }
+}
+
+// Moves the prices of the settled vertices, each by what its distance is below most.
+pub fn move_prices(
+    price: &mut [u32; MOST_VERTICES],
+    rows: u32,
+    order: &[u32; MOST_LISTED],
+    distance: &[u32; MOST_VERTICES],
+    count: u32,
+    most: u32,
+)
+    requires { ⌜ Movable rows (entries (now order)) (entries (now distance)) (entries (now price)) count most ⌝ }
+    requires { ⌜ length (now price) ≡ mostVertices ⌝ }
+    ensures { λ _. ⌜ Shifted rows (entries (now (order .entry))) (entries (now (distance .entry))) (entries (now (price .entry))) (entries (now (price .exit))) count most × (length (now (price .exit)) ≡ mostVertices) ⌝ }
+{
+    let mut i = 0;
+    while i < count {
+        let v = order[i as usize];
+        let at = v as usize;
+        let by = most - distance[at];
+        price[at] = moved(rows, by, v, price[at]);
+        i += 1;
     }
 }

@@ -225,6 +225,7 @@ pub record SolvePassed (g : Graph) (bound : List ℤ) (index : List ℕ) (lent :
   pub chosenLong : lent .chosen ≡ g .edges
   pub vertexLong : lent .vertexPrices ≡ vertices g
   pub edgeLong : lent .edgePrices ≡ g .edges
+  pub workspaceLong : lent .workspace ≡ workspaceNumbers
 
 record Sides (k : Kind) (rows columns : ℕ) : Type 0 where
   bipartite : k ≡ Bipartite
@@ -268,4 +269,5 @@ solve-passed g bound index lent e =
       chosenLong = eqb-true (lent .chosen) (g .edges) (lengths .1 .1 .1 .0);
       vertexLong = eqb-true (lent .vertexPrices) (vertices g) (lengths .1 .1 .1 .1 .0);
       edgeLong = eqb-true (lent .edgePrices) (g .edges) (lengths .1 .1 .1 .1 .1 .0);
+      workspaceLong = eqb-true (lent .workspace) workspaceNumbers (lengths .1 .1 .1 .1 .1 .1 .0);
     }

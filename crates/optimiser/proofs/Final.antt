@@ -19,7 +19,7 @@ use Rattle.dual.specs.Solve.{withoutSets, SolverPrice, Solved}
 use Rattle.duality.proofs.Conditions.{Incident, DualFeasible}
 use Rattle.duality.proofs.Passed.{passed-incident}
 use Rattle.duality.proofs.Duality.{complementary, no-gap}
-use Rattle.tree.specs.Method.{level, value, cost, limit, Solvable, Good, Done}
+use Rattle.tree.specs.Method.{level, value, cost, limit, Solvable, Good, Saturated}
 use Rattle.tree.proofs.Solvable.{value-least, value-most}
 use Rattle.optimiser.specs.Optimiser.{HandedOut}
 use Rattle.optimiser.proofs.Paying.{times-one, times-none}
@@ -37,7 +37,7 @@ taken : (k a b : ℕ) → k ≡ 1 → b ≤ a → k * (a - b) + b ≡ a
 taken k a b e l = omega (arith, times-one k (a - b) e)
 
 module _ {g : Graph} {bound : List ℤ} {x : List ℕ} {price : ℕ → ℕ} {vertex edge : List ℤ} (net : Solvable g)
-    (bounded : Bounded (vertices g) bound) (good : Good g bound x price) (done : Done (g .rows) g bound x price)
+    (bounded : Bounded (vertices g) bound) (good : Good g bound x price) (done : (v : ℕ) → v < g .rows → Saturated g bound x price v)
     (out : HandedOut g x price vertex edge) where
   abbrev P : Prices
   P = withoutSets vertex edge
@@ -137,7 +137,7 @@ module _ {g : Graph} {bound : List ℤ} {x : List ℕ} {price : ℕ → ℕ} {ve
 
   -- A vertex with a price above 0 is saturated.
   saturated : (v : ℕ) → v < vertices g → level < price v → degree g x v ≡ limit bound v
-  saturated v l s = elim (decLt v (g .rows)) [ yes d ↦ done .done v d s | no d ↦ good .full v (omega (arith, d)) l s ]
+  saturated v l s = elim (decLt v (g .rows)) [ yes d ↦ done v d s | no d ↦ good .full v (omega (arith, d)) l s ]
 
   vertex-slack : (v : ℕ) → v < vertices g → vertexPrice P v *ℤ (boundAt bound v -ℤ pos (degree g x v)) ≡ pos 0
   vertex-slack v l = elim (decLt level (price v)) [

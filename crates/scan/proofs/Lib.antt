@@ -1,2 +1,2 @@
--- The laws of looking at an edge.
-pub mod Look
+pub mod Looking
+pub mod Column

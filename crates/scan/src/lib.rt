@@ -1,105 +1,115 @@
-// The scan of a labelled vertex: each edge from it is looked at.
+// The scan of a settled vertex: each edge from it is looked at, and its other end is reached. Each number is chosen from two and stored either way.
+use checks::both;
 use graph::MOST_VERTICES;
 use graph::Shape;
-ghost use Prim.Native.Nat.{_+_, _-_, _≤_, _<_};
+use tree::FAR;
+use tree::MOST_LISTED;
+use tree::pick;
+ghost use Prim.Native.Nat.{_+_, _*_, _-_, _≤_, _<_};
 ghost use mathlib.Core.Path.{_≡_};
-ghost use lib.ListN.{length, getD};
+ghost use lib.Dec.{ltb};
+ghost use lib.ListN.{length};
 ghost use Rattle.graph.specs.Limits.{mostVertices};
-ghost use Rattle.graph.specs.Graph.{graphOf, verticesIn};
-ghost use Rattle.graph.specs.Passed.{Passed};
-ghost use Rattle.tree.specs.Method.{Solvable};
-ghost use Rattle.tree.specs.Tree.{entries, levels, Levelled, NotedInside, slack, FreeColumn};
-ghost use Rattle.scan.specs.Scan.{Decides, Visited};
+ghost use Rattle.graph.specs.Graph.{graphOf};
+ghost use Rattle.tree.specs.Method.{level, Solvable};
+ghost use Rattle.tree.specs.Tree.{entries, naturals};
+ghost use Rattle.tree.specs.Lists.{nowhere};
+ghost use Rattle.scan.specs.Scan.{closed, Reached, Scanning, ColumnScan};
 
-// The edge at place k of an index of n vertices, where the places follow the n + 1 offsets.
-pub fn edge_at(index: &[u32], n: usize, k: u32) -> usize
-    requires { ⌜ (n ≤ mostVertices) × (n + 1 + k < length (now index)) × (0 < getD (now index) (n + 1 + k) 0) ⌝ }
-    ensures { λ e. ⌜ e + 1 ≡ getD (now (index .entry)) (n + 1 + k) 0 ⌝ }
-{
-    let at = n + 1 + k as usize;
-    (index[at] - 1) as usize
+// A chosen edge leads nowhere from its row vertex: what is added to the distance that it would lead to.
+const CLOSED: u32 = 2 * FAR;
+
+// The least distance at which a path ends, its end, and how many vertices are reached.
+pub struct Front {
+    pub most: u32,
+    pub end: u32,
+    pub reached: u32,
 }
 
-// Whether vertex v is a column vertex that is not saturated.
-pub fn is_free(rows: u32, bound: &[i32], degree: &[u32; MOST_VERTICES], v: usize) -> bool
-    requires { ⌜ (v < mostVertices) × (v < length (now bound)) ⌝ }
-    ensures { λ r. ⌜ Decides r (FreeColumn rows (now (bound .entry)) (entries (now (degree .entry))) v) ⌝ }
+// Reaches vertex w by edge e at distance h, if that is nearer than w was and than the end; a free vertex then is the end.
+fn reach(
+    label: &mut [u32; MOST_VERTICES],
+    distance: &mut [u32; MOST_VERTICES],
+    order: &mut [u32; MOST_LISTED],
+    free: bool,
+    w: u32,
+    h: u32,
+    e: u32,
+    f: Front,
+) -> Front
+    requires { ⌜ (w < mostVertices) × (f .reached ≤ mostVertices) ⌝ }
+    ensures { λ r. ⌜ Reached free w h e f r (now (label .entry)) (now (distance .entry)) (now (order .entry)) (now (label .exit)) (now (distance .exit)) (now (order .exit)) ⌝ }
 {
-    if v < rows as usize {
-        return false;
+    let v = w as usize;
+    let old = distance[v];
+    let nearer = both(h < old, h < f.most);
+    let ends = both(nearer, free);
+    let more = pick(both(nearer, old == FAR), 1, 0);
+    distance[v] = pick(nearer, h, old);
+    label[v] = pick(nearer, e, label[v]);
+    order[f.reached as usize] = w;
+    Front {
+        most: pick(ends, h, f.most),
+        end: pick(ends, w, f.end),
+        reached: f.reached + more,
     }
-    degree[v] < integers::natural_at(bound, v)
 }
 
-// Whether the path ends at vertex v, reached by an edge of this slack.
-fn ends_path(slack: u32, rows: u32, bound: &[i32], degree: &[u32; MOST_VERTICES], v: usize) -> bool
-    requires { ⌜ (v < mostVertices) × (v < length (now bound)) ⌝ }
-    ensures { λ r. ⌜ Decides r ((slack ≡ 0) × FreeColumn rows (now (bound .entry)) (entries (now (degree .entry))) v) ⌝ }
+// Looks at edge e from a row vertex to column vertex w, from where the row vertex's price and its distance come to this base.
+pub fn look(
+    price: &[u32; MOST_VERTICES],
+    room: &[u32; MOST_VERTICES],
+    label: &mut [u32; MOST_VERTICES],
+    distance: &mut [u32; MOST_VERTICES],
+    order: &mut [u32; MOST_LISTED],
+    base: u32,
+    w: u32,
+    worth: u32,
+    mark: u8,
+    e: u32,
+    f: Front,
+) -> Front
+    requires { ⌜ (w < mostVertices) × (f .reached ≤ mostVertices) ⌝ }
+    requires { ⌜ (base ≤ 3 * level) × (entries (now price) w ≤ 2 * level) × (mark ≤ 1) × (worth ≤ 3 * level) × (mark ≡ 0 → worth ≤ base + entries (now price) w) ⌝ }
+    ensures { λ r. ⌜ Reached (ltb 0 (entries (now (room .entry)) w)) w (base + entries (now (price .entry)) w + mark * closed - worth) e f r (now (label .entry)) (now (distance .entry)) (now (order .entry)) (now (label .exit)) (now (distance .exit)) (now (order .exit)) ⌝ }
 {
-    if slack > 0 {
-        return false;
-    }
-    is_free(rows, bound, degree, v)
+    let v = w as usize;
+    let h = base + price[v] + mark as u32 * CLOSED - worth;
+    reach(label, distance, order, room[v] > 0, w, h, e, f)
 }
 
-// Whether an edge is noted, by its number from 1, and is at most this slack.
-fn is_nearer(
+// Looks at each chosen edge from column vertex u, which was settled at distance d: those listed from start to before stop.
+pub fn scan_column(
     s: Shape,
     row: &[u32],
     column: &[u32],
     weight: &[i32],
-    price: &[i32],
-    noted: u32,
-    most: u32,
-) -> bool
-    requires { ⌜ Passed (graphOf s (now row) (now column) (now weight)) ⌝ }
-    requires { ⌜ Levelled (verticesIn s) (now price) × (0 < noted → noted - 1 < s .edges) ⌝ }
-    ensures { λ r. ⌜ Decides r ((0 < noted) × (slack (graphOf s (now (row .entry)) (now (column .entry)) (now (weight .entry))) (levels (now (price .entry))) (noted - 1) ≤ most)) ⌝ }
-{
-    if noted == 0 {
-        return false;
-    }
-    let e = (noted - 1) as usize;
-    tree::slack_at(s, row, column, weight, price, e) <= most
-}
-
-// Looks at edge e from vertex u, and notes it where it leads to a vertex with no label and is nearer than the edge noted there. The result is
-// whether the path ends there.
-pub fn visit(
-    s: Shape,
-    row: &[u32],
-    column: &[u32],
-    weight: &[i32],
-    bound: &[i32],
-    chosen: &[u8],
-    price: &[i32],
-    degree: &[u32; MOST_VERTICES],
-    rank: &[u32; MOST_VERTICES],
-    near: &mut [u32; MOST_VERTICES],
+    list: &[i32],
+    price: &[u32; MOST_VERTICES],
+    label: &mut [u32; MOST_VERTICES],
+    distance: &mut [u32; MOST_VERTICES],
+    order: &mut [u32; MOST_LISTED],
+    start: u32,
+    stop: u32,
     u: usize,
-    e: usize,
-) -> bool
+    d: u32,
+    first: Front,
+) -> Front
     requires { ⌜ Solvable (graphOf s (now row) (now column) (now weight)) ⌝ }
-    requires { ⌜ Levelled (verticesIn s) (now price) ⌝ }
-    requires { ⌜ (e < s .edges) × (length (now chosen) ≡ s .edges) × (length (now bound) ≡ verticesIn s) ⌝ }
-    requires { ⌜ NotedInside (s .edges) (entries (now rank)) (entries (now near)) ⌝ }
-    ensures { λ r. ⌜ Visited (graphOf s (now (row .entry)) (now (column .entry)) (now (weight .entry))) (now (bound .entry)) (now (chosen .entry)) (levels (now (price .entry))) (entries (now (rank .entry))) (entries (now (degree .entry))) u e (now (near .entry)) (now (near .exit)) r ⌝ }
+    requires { ⌜ (stop ≤ length (now list)) × (d ≤ level) ⌝ }
+    requires { ⌜ ColumnScan (graphOf s (now row) (now column) (now weight)) (entries (now price)) (now label) (now distance) (now order) d u first (naturals (now list)) start stop ⌝ }
+    ensures { λ r. ⌜ ((c : ColumnScan (graphOf s (now (row .entry)) (now (column .entry)) (now (weight .entry))) (entries (now (price .entry))) (now (label .entry)) (now (distance .entry)) (now (order .entry)) d u first (naturals (now (list .entry))) start stop) → Scanning (graphOf s (now (row .entry)) (now (column .entry)) (now (weight .entry))) (c .x) (entries (now (price .entry))) (c .room) (now (label .exit)) (now (distance .exit)) (now (order .exit)) (c .root) (c .count) d u r (naturals (now (list .entry))) start stop) ⌝ }
 {
-    let arc = tree::arc_at(s, row, column, chosen, e);
-    if arc.tail != u {
-        return false;
+    let mut f = first;
+    let mut k = start;
+    while k < stop {
+        let e = integers::natural_at(list, k as usize);
+        let at = e as usize;
+        let ends = tree::ends_at(s, row, column, at);
+        let w = ends.first;
+        let h = d + tree::value_at(weight, at) - (price[w] + price[u]);
+        f = reach(label, distance, order, false, w as u32, h, e, f);
+        k += 1;
     }
-    let w = arc.head;
-    if rank[w] > 0 {
-        return false;
-    }
-    let slack = tree::slack_at(s, row, column, weight, price, e);
-    if ends_path(slack, s.rows, bound, degree, w) {
-        return true;
-    }
-    if is_nearer(s, row, column, weight, price, near[w], slack) {
-        return false;
-    }
-    near[w] = e as u32 + 1;
-    false
+    f
 }

@@ -1,336 +1,379 @@
--- The growth of a search's tree: what its two loops keep, and how it ends.
-use Prim.Native.Nat.{ℕ, _+_, _-_, _≤_, _<_}
+-- The growth of a search: what its two loops keep, and how it ends.
+use Prim.Native.Nat.{ℕ, _+_, _*_, _-_, _≤_, _<_}
 use mathlib.Core.Path.{_≡_, refl, sym, ap, _∙_, subst}
-use mathlib.Core.Logic.{⊎-elim}
-use mathlib.Core.Bool.{Bool, true, false}
-use mathlib.Core.List.{List, []}
+use mathlib.Core.Logic.{_≢_, _⊎_, inr, ⊎-elim}
+use mathlib.Core.Bool.{Bool, false, cond, _&&_}
+use mathlib.Core.List.{List}
 use native.Mathlib.Omega.{arith}
-use native.Mathlib.Nat.{eq-zero-or-pos}
-use lib.Dec.{T}
+use lib.Dec.{ltb}
 use lib.IntN.{ℤ}
-use lib.ListN.{length, getD, set, replicate, length-set, length-replicate, getD-replicate, List·getD-eq-default}
-use Rattle.integers.specs.Sum.{is}
-use Rattle.integers.proofs.Sum.{is-same, sum-term}
-use Rattle.graph.specs.declared.Shape.{Shape}
-use Rattle.graph.specs.Graph.{Graph, graphOf, vertices}
-use Rattle.graph.specs.Subgraph.{degree}
-use Rattle.graph.specs.Index.{isEnd, offset, indexOf}
-use Rattle.graph.proofs.Index.{count-more, seen, offset-next}
-use Rattle.tree.specs.Method.{limit, Solvable, Good, Labels, Augmented}
-use Rattle.augment.specs.Augment.{Walkable}
-use Rattle.tree.specs.declared.Tree.{Tree}
-use Rattle.tree.specs.Tree.{entries, levels, NotedInside, tail, head, slack, Near, Noted, passed, kept, taken, Degrees, FreeColumn, Searching, Moved, Ended}
-use Rattle.tree.proofs.Solvable.{few, rows-in}
-use Rattle.tree.proofs.Leading.{lt-or-ge, apart-none, head-in, put-set}
-use Rattle.tree.proofs.Label.{Label}
-use Rattle.tree.proofs.Notes.{near-more}
-use Rattle.tree.proofs.Step.{stepped, at-level, at-tight}
-use Rattle.tree.proofs.End.{searching, end-row, end-column, goes-on}
-use Rattle.scan.specs.Scan.{EndsPath}
-use Rattle.search.specs.Search.{Advanced}
-use Rattle.search.proofs.Places.{At, start, place-in, some, at, tail-end, none-between, seen-more}
+use lib.ListN.{length, getD, set, replicate, length-set, length-replicate, getD-replicate}
+use lib.Seq.{getD-set-same, getD-set-other}
+use borrow.Author.Tests.{ltb-true, ltb-false, lt-ltb, le-ltb}
+use Rattle.graph.specs.Limits.{mostVertices, mostEdges}
+use Rattle.graph.specs.Graph.{Graph, vertices, firstEnd, secondEnd}
+use Rattle.graph.specs.Subgraph.{markAt, degree}
+use Rattle.graph.specs.Index.{offset, indexOf}
+use Rattle.graph.proofs.Index.{offset-more, offset-next}
+use Rattle.tree.specs.Method.{level, value, cost, Solvable, Good}
+use Rattle.tree.specs.Tree.{entries, tail, head}
+use Rattle.tree.specs.Front.{far, State, Bounded, Looked, Leaving, Owned, keeps, takes}
+use Rattle.tree.specs.Lists.{Arc, Kept, startIn, Among, Item, nowhere}
+use Rattle.tree.proofs.Solvable.{few, small, rows-in, first-to, second-from, second-to, value-most}
+use Rattle.tree.proofs.Leading.{lt-or-ge, Out, Back, back, arc, leads, slack-out}
+use Rattle.tree.proofs.Grow.{start, last-in, last-settled, not-more, entry-in, entry-once, entry-settled}
+use Rattle.tree.proofs.Settle.{Swap, left-early, left-last, next}
+use Rattle.tree.proofs.Lists.{among-somewhere}
+use Rattle.tree.proofs.Places as Places
+use Rattle.scan.specs.declared.Front.{Front}
+use Rattle.scan.specs.Scan.{closed, Reached, Scanning, ColumnScan}
+use Rattle.scan.proofs.Looking.{fails, roomy, looked-at, skipped}
+use Rattle.dual_step.specs.Step.{Searchable, NearestAt, Settles, Movable}
+use Rattle.search.proofs.Spans as Spans
+use Rattle.search.specs.declared.Span.{Span}
+use Rattle.search.specs.Search.{Known, Findable, ListOf}
 
--- What the outer loop keeps, before vertex u is scanned.
-pub record Growing (g : Graph) (bound : List ℤ) (x : List ℕ) (price₀ price : List ℤ) (t : Tree) (near : List ℕ) (root u : ℕ) : Type 0 where
-  pub search : Searching g bound x (levels price₀) (levels price) (entries (t .label)) (entries (t .rank)) (entries near) root (t .count) u 0
-  pub long : length price ≡ length price₀
-  pub label-long : length (t .label) ≡ 128
-  pub rank-long : length (t .rank) ≡ 128
-  pub near-long : length near ≡ 128
+-- ---- the start
 
--- What a scan keeps when the edges before e were looked at: the tree stays.
-pub record Looked (g : Graph) (x : List ℕ) (price : List ℤ) (t₀ t : Tree) (near : List ℕ) (e : ℕ) : Type 0 where
-  pub same : t ≡ t₀
-  pub notes : Near (g .edges) (tail g x) (head g x) (slack g (levels price)) (entries (t .rank)) (entries near) (t .count) e
-  pub near-long : length near ≡ 128
+-- The scan of a vertex begins anew, with another list.
+pub anew : {g : Graph} {x : List ℕ} {price room : ℕ → ℕ} {label dist order : List ℕ} {root count d u : ℕ} {f : Front} {edge edge′ : ℕ → ℕ} {start k start′ : ℕ}
+    → Scanning g x price room label dist order root count d u f edge start k → Scanning g x price room label dist order root count d u f edge′ start′ start′
+anew s = record {
+  state = s .state;
+  looked = record { each = λ j a b. absurd (omega arith) };
+  label-long = s .label-long;
+  dist-long = s .dist-long;
+  order-long = s .order-long;
+}
 
--- What the inner loop keeps, before place k of the index: the edges before some edge were looked at, and those of vertex u among them stand before k.
-pub record Scanning (g : Graph) (x : List ℕ) (price : List ℤ) (t₀ t : Tree) (near : List ℕ) (u k : ℕ) : Type 0 where
-  pub before : ℕ
-  pub among : before ≤ g .edges
-  pub looked : Looked g x price t₀ t near before
-  pub place : k ≡ offset g u + seen g u before
-
-blank : (w : ℕ) → entries (replicate 128 0) w ≡ 0
-blank w =
-    ⊎-elim (λ l. getD-replicate 128 w 0 0 l) (λ l. List·getD-eq-default (replicate 128 0) 0 {n = w} (omega (arith, length-replicate {A = ℕ} 128 0)))
-    (lt-or-ge w 128)
-
-noted-long : {from to gap rank : ℕ → ℕ} {u e : ℕ} {near near′ : List ℕ} → Noted from to gap rank u e near near′ → length near′ ≡ length near
-noted-long (passed f i) = ap length i
-noted-long (kept r i) = ap length i
-noted-long (taken l f i) = ap length i ∙ simp length-set
-
--- The prices that have moved are all.
-pub moved-all : {rows m n by : ℕ} {rank price price′ : ℕ → ℕ} → m ≡ n → Moved rows m by rank price price′ → Moved rows n by rank price price′
-moved-all i m = record { each = λ v l. m .each v (omega (arith, i)) }
-
--- The first turn.
-pub growing : {g : Graph} {bound price : List ℤ} {x : List ℕ} {t : Tree} {root : ℕ} → Solvable g → Good g bound x (levels price) → root < g .rows
-    → (t .label ≡ replicate 128 0) × (t .rank ≡ set (replicate 128 0) root 1) × (t .count ≡ 1) → Growing g bound x price price t (replicate 128 0) root root
-growing {g} {bound} {price} {x} {t} {root} net good low r = record {
-  search =
-      subst
-      (λ k. Searching g bound x (levels price) (levels price) (entries (t .label)) (entries (t .rank)) (entries (replicate 128 0)) root k root 0)
-      (sym (r .2))
-      (searching net good low
-      (record {
-        at = ap (λ l. getD l root 0) (r .1) ∙ put-set (replicate 128 0) root 1 inside .at;
-        other = λ w n. ap (λ l. getD l w 0) (r .1) ∙ put-set (replicate 128 0) root 1 inside .other w n ∙ blank w;
-      })
-      blank);
-  long = refl;
-  label-long = ap length (r .0) ∙ length-replicate {A = ℕ} 128 0;
-  rank-long = ap length (r .1) ∙ length-set (replicate 128 0) root 1 ∙ length-replicate {A = ℕ} 128 0;
-  near-long = length-replicate {A = ℕ} 128 0;
+-- The first turn: the root alone is reached.
+pub begun : {g : Graph} {bound : List ℤ} {x : List ℕ} {price room : ℕ → ℕ} {label dist order : List ℕ} {root : ℕ} {f : Front} {edge : ℕ → ℕ} → Solvable g →
+    Good g bound x price → root < g .rows
+    → (dist ≡ set (replicate mostVertices far) root 0) × (entries order 0 ≡ root) × (length label ≡ mostVertices) × (length order ≡ mostVertices + 1)
+    → (f .most ≡ price root - level) × (f .end ≡ root) × (f .reached ≡ 1) → Scanning g x price room label dist order root 1 0 root f edge 0 0
+begun {g} {bound} {x} {price} {room} {label} {dist} {order} {root} {f} {edge} net good low made is = record {
+  state =
+      subst (λ k. State g x price room (entries dist) (entries label) (entries order) root 1 k 0 (f .most) (f .end) root) (sym (is .2))
+      (subst (λ k. State g x price room (entries dist) (entries label) (entries order) root 1 1 0 (f .most) k root) (sym (is .1))
+      (start low (rows-in net) at other (made .1) price-is (omega (arith, is .0, good .most root root-in))));
+  looked = record { each = λ j a b. absurd (omega arith) };
+  label-long = made .2;
+  dist-long = ap length (made .0) ∙ length-set (replicate mostVertices far) root 0 ∙ length-replicate {A = ℕ} mostVertices far;
+  order-long = made .3;
 }
   where
-    inside : root < length {A = ℕ} (replicate 128 0)
-    inside = omega (arith, length-replicate {A = ℕ} 128 0, few net, rows-in net)
+    root-in : root < vertices g
+    root-in = omega (arith, rows-in net)
 
-module _ {g : Graph} {bound : List ℤ} {x : List ℕ} {price₀ price : List ℤ} {t₀ : Tree} {near₀ : List ℕ} {root u : ℕ}
-    (o : Growing g bound x price₀ price t₀ near₀ root u) where
-  pub scanning : {k : ℕ} → k ≡ offset g u → Scanning g x price t₀ t₀ near₀ u k
-  scanning e = record {
-    before = 0;
-    among = omega arith;
-    looked = record { same = refl; notes = o .search .notes; near-long = o .near-long };
-    place = omega (arith, e, (let z : seen g u 0 ≡ 0 = refl in z));
-  }
+    at : entries dist root ≡ 0
+    at = ap (λ l. getD l root 0) (made .0)
+        ∙ getD-set-same (replicate mostVertices far) root 0 0 (omega (arith, length-replicate {A = ℕ} mostVertices far, root-in, few net))
 
-  -- The state within a scan.
-  module _ {t : Tree} {near : List ℕ} {e : ℕ} (i : Looked g x price t₀ t near e) where
-    pub within : Searching g bound x (levels price₀) (levels price) (entries (t .label)) (entries (t .rank)) (entries near) root (t .count) u e
-    within =
-        let s = subst
-        (λ k. Searching g bound x (levels price₀) (levels price) (entries (k .label)) (entries (k .rank)) (entries near₀) root (k .count) u 0)
-        (sym (i .same)) (o .search) in
-        record { good = s .good; tree = s .tree; newest = s .newest; notes = i .notes; falls = s .falls }
+    other : (v : ℕ) → v < vertices g → v ≢ root → entries dist v ≡ far
+    other v l n = ap (λ l. getD l v 0) (made .0) ∙ getD-set-other (replicate mostVertices far) root v 0 0 n
+        ∙ getD-replicate mostVertices v far 0 (omega (arith, few net))
 
-    pub labels-128 : length (t .label) ≡ 128
-    labels-128 = ap (λ k. length (k .label)) (i .same) ∙ o .label-long
+    price-is : price root ≡ f .most + level
+    price-is = omega (arith, is .0, good .least root root-in)
 
-    pub ranks-128 : length (t .rank) ≡ 128
-    ranks-128 = ap (λ k. length (k .rank)) (i .same) ∙ o .rank-long
+-- ---- the chosen edges of a column vertex
 
-    count-some : 0 < t .count
-    count-some = omega (arith, within .tree .root-seen, within .tree .under root)
+module _ {g : Graph} {bound : List ℤ} {x index : List ℕ} {price room list : ℕ → ℕ} {label dist order : List ℕ} {root count d u : ℕ} {f : Front} {edge : ℕ → ℕ} {from k : ℕ}
+    (net : Solvable g) (is : index ≡ indexOf g) (h : Known g bound x price room list) (bound-long : length bound ≡ vertices g)
+    (s : Scanning g x price room label dist order root count d u f edge from k) where
+  vertex-in : u < vertices g
+  vertex-in = last-in (s .state)
 
-    -- After an edge at which no path ends.
-    pub scanned : {near′ : List ℕ} → Solvable g → e < g .edges →
-        Noted (tail g x) (head g x) (slack g (levels price)) (entries (t .rank)) u e near near′ → Looked g x price t₀ t near′ (e + 1)
-    scanned net l n = record {
-      same = i .same;
-      notes = near-more {g = g} l count-some (within .newest) (omega (arith, head-in net x e l, few net, i .near-long)) (i .notes) n;
-      near-long = noted-long n ∙ i .near-long;
+  pub findable : Findable (g .rows) index bound room u
+  findable = Spans.findable net is (h .between .rooms) vertex-in bound-long
+
+  module _ {p : Span} (at : ListOf (g .rows) index bound room u p) where
+    pub listed-at : g .rows ≤ u → (p .start ≡ startIn g u) × (p .stop ≡ startIn g u + degree g x u)
+    listed-at = Spans.listed-at net is (h .between .rooms) vertex-in at
+
+    -- A place of the list.
+    module _ {j : ℕ} (a : p .start ≤ j) (b : j < p .stop) where
+      column : g .rows ≤ u
+      column = ⊎-elim (λ r. absurd (omega (arith, at .of-row r .1))) (λ r. r) (lt-or-ge u (g .rows))
+
+      among : Among g (degree g x) u j
+      among = record { from = omega (arith, listed-at column .0); to = omega (arith, listed-at column .1) }
+
+      pub item : Item g x list (h .place) u j
+      item = h .between .lists .holds u j column vertex-in among (among-somewhere (h .between .lists .fits) column vertex-in among)
+
+    unfoldable pub column-scan : ColumnScan g price label dist order d u f list (p .start) (p .stop)
+    column-scan = record {
+      bound = bound;
+      x = x;
+      room = room;
+      root = root;
+      count = count;
+      good = h .between .good;
+      scanning = anew s;
+      inside = λ j a b. item a b .inside;
+      mark = λ j a b. item a b .mark;
+      column = λ j a b. item a b .column;
     }
 
-    -- Edges that do not lead from u need not be looked at.
-    skipped : (f : ℕ) → ((q : ℕ) → e ≤ q → q < f → tail g x q ≡ u → ⊥) → Looked g x price t₀ t near f
-    skipped f none = record {
-      same = i .same;
-      notes = record {
-        right = i .notes .right;
-        older = i .notes .older;
-        here = λ q l b c z. ⊎-elim (λ h. i .notes .here q l h c z) (λ h. absurd (none q h b (within .newest .only _ c))) (lt-or-ge q e);
-      };
-      near-long = i .near-long;
-    }
+    pub stop-in : {n : ℕ} → nowhere g ≤ n → p .stop ≤ n
+    stop-in l = ⊎-elim (λ r. omega (arith, at .of-row r .1))
+        (λ r. omega (
+          arith,
+          listed-at r .1,
+          h .between .lists .fits u r vertex-in,
+          offset-next g u,
+          offset-more g (u + 1) (vertices g) (omega (arith, vertex-in)),
+        )) (lt-or-ge u (g .rows))
 
-    -- While a vertex has no label, there is room for one more.
-    pub room : {v : ℕ} → Solvable g → v < vertices g → entries (t .rank) v ≡ 0 → t .count < 128
-    room {v} net l z = omega (arith, within .tree .tally, few net, sum-term (vertices g) v (λ w. is (entries (t .rank) w) 0) l, ap (λ k. is k 0) z, is-same 0)
+  pub near-level : d ≤ level
+  near-level = omega (arith, s .state .top .least, s .state .top .small)
 
-    -- There is room for the label of the vertex w that edge e leads to.
-    pub roomy : {used : ℕ → ℕ} {w : ℕ} → Solvable g → e < g .edges →
-        EndsPath (tail g x) (head g x) (slack g (levels price)) (entries (t .rank)) used (g .rows) bound u e → w ≡ head g x e →
-        (w < 128) × (t .count < 128)
-    roomy net l n at = (
-      omega (arith, at, head-in net x e l, few net),
-      room net (head-in net x e l) (n .leads .new),
+-- ---- the edges of positive weight of a row vertex
+
+-- What the inner loop keeps before place k: the edges at the places before it were looked at, and of a column vertex those of its list.
+pub record RowScan (g : Graph) (x : List ℕ) (price room edge list : ℕ → ℕ) (label dist order : List ℕ) (root count d u : ℕ) (f : Front) (k : ℕ) : Type 0 where
+  pub scan : Scanning g x price room label dist order root count d u f edge (offset g u) k
+  pub back : g .rows ≤ u → Looked g x price (entries dist) (f .most) u list (startIn g u) (startIn g u + degree g x u)
+  pub low : offset g u ≤ k
+
+pub row-begun : {g : Graph} {x index : List ℕ} {price room edge list : ℕ → ℕ} {label dist order : List ℕ} {root count d u : ℕ} {f : Front} {p : Span} → Solvable g →
+    index ≡ indexOf g → (g .rows ≤ u → (p .start ≡ startIn g u) × (p .stop ≡ startIn g u + degree g x u))
+    → Scanning g x price room label dist order root count d u f list (p .start) (p .stop)
+    → RowScan g x price room edge list label dist order root count d u f (entries index u)
+row-begun {g} {x} {index} {price} {room} {edge} {list} {label} {dist} {order} {root} {count} {d} {u} {f} {p} net is listed s =
+    subst (λ k. RowScan g x price room edge list label dist order root count d u f k) (sym (Places.start net is (omega (arith, last-in (s .state)))))
+    (record {
+      scan = anew s;
+      back = λ l. record { each = λ j a b. s .looked .each j (omega (arith, listed l .0)) (omega (arith, listed l .1)) };
+      low = omega arith;
+    })
+
+module _ {g : Graph} {bound : List ℤ} {x : List ℕ} {price room edge head worth stop list : ℕ → ℕ} {label dist order : List ℕ} {root count d u : ℕ} {f : Front} {k last : ℕ}
+    (net : Solvable g) (h : Known g bound x price room list) (kept : Kept g edge head worth stop (g .rows))
+    (r : RowScan g x price room edge list label dist order root count d u f k) (last-is : last ≡ cond (ltb u (g .rows)) (stop u) 0) where
+  abbrev good : Good g bound x price
+  good = h .between .good
+
+  u-in : u < vertices g
+  u-in = last-in (r .scan .state)
+
+  last-row : u < g .rows → last ≡ stop u
+  last-row l = last-is ∙ ap (λ (b : Bool). cond b (stop u) 0) (lt-ltb u (g .rows) l)
+
+  -- A place before the last one.
+  module _ (l : k < last) where
+    row : u < g .rows
+    row = ⊎-elim (λ a. a) (λ a. absurd (omega (arith, last-is ∙ ap (λ (b : Bool). cond b (stop u) 0) (le-ltb u (g .rows) a)))) (lt-or-ge u (g .rows))
+
+    stands : Arc g u (edge k) (head k) (worth k)
+    stands = kept .arcs u k row (r .low) (omega (arith, last-row row))
+
+    pub place-low : k < mostEdges
+    place-low =
+        omega (arith, last-row row, kept .stops u row, offset-more g (u + 1) (g .rows) (omega (arith, row)), Places.offset-rows net, small net)
+
+    pub edge-in : edge k < length x
+    edge-in = omega (arith, stands .inside, good .long)
+
+    pub head-in : head k < mostVertices
+    head-in = omega (arith, stands .column, second-to net (edge k) (stands .inside), few net)
+
+    ends-prices : cost g price (edge k) ≡ price u + price (head k)
+    ends-prices = omega (arith, ap price (stands .row), ap price (stands .column))
+
+    -- What a look asks for.
+    pub lookable : {base : ℕ} → base ≡ d + price u →
+        (base ≤ 3 * level) × (price (head k) ≤ 2 * level) × (markAt x (edge k) ≤ 1) × (worth k ≤ 3 * level) × (markAt x (edge k) ≡ 0 → worth k ≤ base + price (head k))
+    lookable e = (
+      omega (arith, e, r .scan .state .top .least, r .scan .state .top .small, good .most u u-in),
+      good .most (head k) (omega (arith, stands .column, second-to net (edge k) (stands .inside))),
+      good .marks (edge k),
+      omega (arith, stands .weight, value-most net (edge k) (stands .inside)),
+      λ z. omega (arith, e, stands .weight, good .loose (edge k) (stands .inside) z, ends-prices),
     )
 
-    module _ {used : ℕ → ℕ} (net : Solvable g) (count : Degrees g x used) where
-      free : {v : ℕ} → v < vertices g → FreeColumn (g .rows) bound used v → FreeColumn (g .rows) bound (degree g x) v
-      free {v} l f = record { column = f .column; room = omega (arith, f .room, count v (omega (arith, few net))) }
+    -- After the look.
+    pub turned : {base : ℕ} {f′ : Front} {label′ dist′ order′ : List ℕ} → base ≡ d + price u →
+        Reached (ltb 0 (room (head k))) (head k) (base + price (head k) + markAt x (edge k) * closed - worth k) (edge k) f f′ label dist order label′ dist′ order′
+        → RowScan g x price room edge list label′ dist′ order′ root count d u f′ (k + 1)
+    turned {base} {f′} {label′} {dist′} {order′} e c = record {
+      scan = ⊎-elim loose taken (arc g x (edge k) (good .marks (edge k)));
+      back = λ a. absurd (omega (arith, row));
+      low = omega (arith, r .low);
+    }
+      where
+        inside : head k < vertices g
+        inside = omega (arith, stands .column, second-to net (edge k) (stands .inside))
 
-      not-free : {v : ℕ} → v < vertices g → (FreeColumn (g .rows) bound used v → ⊥) → FreeColumn (g .rows) bound (degree g x) v → ⊥
-      not-free {v} l n f = n (record { column = f .column; room = omega (arith, f .room, count v (omega (arith, few net))) })
+        loose : Out g x (edge k) → Scanning g x price room label′ dist′ order′ root count d u f′ edge (offset g u) (k + 1)
+        loose o = looked-at net (r .scan) inside c (stands .inside) (o .from ∙ stands .row) (o .to ∙ sym (stands .column))
+            (omega (arith, e, o .mark, ap (λ m. m * closed) (o .mark), stands .weight, slack-out good (edge k) (stands .inside) o, ends-prices))
+            (λ z a. omega (arith, ltb-false 0 (room (head k)) z))
+            (λ z. (omega (arith, stands .column, second-from net (edge k) (stands .inside)), ltb-true 0 (room (head k)) z))
 
-      -- The path ends at the vertex w that edge e leads to.
-      pub found : {t′ : Tree} {w : ℕ} → e < g .edges →
-          EndsPath (tail g x) (head g x) (slack g (levels price)) (entries (t .rank)) used (g .rows) bound u e → w ≡ head g x e
-          → (t′ .label ≡ set (t .label) w e) × (t′ .rank ≡ set (t .rank) w (t .count + 1)) × (t′ .count ≡ t .count + 1)
-          → Ended g bound x (levels price₀) (levels price) (entries (t′ .label)) (entries (t′ .rank)) root w
-      found {t′} {w} l n at r = subst (λ k. Ended g bound x (levels price₀) (levels price) (entries k) (entries (t′ .rank)) root w) (sym (r .0))
-          (subst (λ k. Ended g bound x (levels price₀) (levels price) (entries (set (t .label) w e)) (entries k) root w) (sym (r .1))
-          (end-column net within
-          (record {
-            inside = l;
-            to = sym at;
-            from = omega (arith, ap (entries (t .rank)) (n .leads .at), within .newest .newest, count-some);
-            new = ap (entries (t .rank)) at ∙ n .leads .new;
-            tight = apart-none _ _ (n .tight);
-            label-put = put-set (t .label) w e (omega (arith, inside, labels-128, few net));
-            rank-put = put-set (t .rank) w (t .count + 1) (omega (arith, inside, ranks-128, few net));
-          })
-          (free inside (subst (λ k. FreeColumn (g .rows) bound used k) (sym at) (n .free)))))
-        where
-          inside : w < vertices g
-          inside = omega (arith, at, head-in net x e l)
+        taken : Back g x (edge k) → Scanning g x price room label′ dist′ order′ root count d u f′ edge (offset g u) (k + 1)
+        taken o = skipped net (r .scan) inside c
+            (omega (arith, e, ap (λ m. m * closed) (o .mark), stands .weight, value-most net (edge k) (stands .inside), r .scan .state .top .small))
+            (λ t. omega (arith, t, o .from, second-from net (edge k) (stands .inside), row))
 
--- From place to place of vertex u.
-module _ {g : Graph} {bound : List ℤ} {x : List ℕ} {price₀ price : List ℤ} {t₀ t : Tree} {near₀ near : List ℕ} {root u k : ℕ}
-    (o : Growing g bound x price₀ price t₀ near₀ root u) (i : Scanning g x price t₀ t near u k) where
-  place-low : offset g u ≤ k
-  place-low = omega (arith, i .place)
+  -- All edges from the vertex were looked at: those of a row vertex that are not listed have no positive weight, and lead no nearer than the vertex itself.
+  module _ (l : last ≤ k) where
+    abbrev s : State g x price room (entries dist) (entries label) (entries order) root count (f .reached) d (f .most) (f .end) u
+    s = r .scan .state
 
-  skip : (f : ℕ) → seen g u (i .before) ≡ seen g u f → Looked g x price t₀ t near f
-  skip f same = skipped o (i .looked) f (λ q a b c. none-between g u (i .before) f q same a b (tail-end g x q u c))
+    loose-looked : (q : ℕ) → q < g .edges → Out g x q → firstEnd g q ≡ u → Bounded g x price (entries dist) (f .most) q
+    loose-looked q b o t = ⊎-elim
+        (λ a.
+        let j = kept .all q b (first-to net q b) a in
+        let low : offset g u ≤ j .0 = subst (λ v. offset g v ≤ j .0) t (j .1) in
+        let high : j .0 < k = subst (λ v. j .0 < stop v → j .0 < k) (sym t) (λ c. omega (arith, last-row row)) (j .2) in
+        subst (λ e. Bounded g x price (entries dist) (f .most) e) (j .3)
+        (r .scan .looked .each (j .0) low high (ap (tail g x) (j .3) ∙ o .from ∙ t)))
+        (λ a. inr (omega (
+          arith,
+          ap (entries dist) (o .from ∙ t),
+          s .top .low u row (last-settled s),
+          slack-out good q b o,
+          ap price t,
+          good .least (secondEnd g q) (second-to net q b),
+        )))
+        (lt-or-ge (2 * level) (value g q))
+      where
+        row : u < g .rows
+        row = omega (arith, t, first-to net q b)
 
-  module _ {index : List ℕ} {n : ℕ} (net : Solvable g) (is : index ≡ indexOf g) (all : n ≡ vertices g) (test : k < getD index (u + 1) 0) where
-    u-in : u < vertices g
-    u-in = o .search .newest .inside
+    taken-looked : (q : ℕ) → q < g .edges → Back g x q → secondEnd g q ≡ u → Bounded g x price (entries dist) (f .most) q
+    taken-looked q b o t =
+        let a : g .rows ≤ u = omega (arith, t, second-from net q b) in
+        let c = h .between .lists .held q b (o .mark) in
+        let j = h .place q in
+        let m = subst (λ v. Among g (degree g x) v j) t (c .among) in
+        subst (λ e. Bounded g x price (entries dist) (f .most) e) (c .is)
+        (r .back a .each j (m .from) (m .to) (ap (tail g x) (c .is) ∙ o .from ∙ t))
 
-    high : k < offset g (u + 1)
-    high = omega (arith, test, start net is {v = u + 1} (omega (arith, u-in)))
+    pub looked-all : (q : ℕ) → q < g .edges → tail g x q ≡ u → Bounded g x price (entries dist) (f .most) q
+    looked-all q b t = ⊎-elim (λ o. loose-looked q b o (sym (o .from) ∙ t)) (λ o. taken-looked q b o (sym (o .from) ∙ t)) (leads good q b)
 
-    -- There is an edge at the place.
-    pub readable : (n ≤ 128) × (n + 1 + k < length index) × (0 < getD index (n + 1 + k) 0)
-    readable = (omega (arith, all, few net), place-in net is all u-in place-low high, some net is all u-in place-low high)
+-- ---- the next vertex, and the end
 
-    pub stands : {e : ℕ} → e + 1 ≡ getD index (n + 1 + k) 0 → At g u k e
-    stands h = at net is all u-in place-low high h
+-- The search is left, and the arrays have their lengths still.
+pub record Left (g : Graph) (x : List ℕ) (price room : ℕ → ℕ) (label dist order : List ℕ) (root count most end : ℕ) : Type 0 where
+  pub leaving : Leaving g x price room (entries dist) (entries label) (entries order) root count most end
+  pub label-long : length label ≡ mostVertices
+  pub order-long : length order ≡ mostVertices + 1
 
-  -- Before edge e, which stands there, is looked at.
-  pub looking : {e : ℕ} → At g u k e → Looked g x price t₀ t near e
-  looking {e} a = skip e (omega (arith, i .place, a .place))
+-- An end as near as the vertex settled last.
+pub ends-early : {g : Graph} {x : List ℕ} {price room edge list : ℕ → ℕ} {label dist order : List ℕ} {root count d u : ℕ} {f : Front} {k : ℕ}
+    → RowScan g x price room edge list label dist order root count d u f k → f .most ≡ d →
+    Left g x price room label dist order root count (f .most) (f .end)
+ends-early r e = record { leaving = left-early (r .scan .state) e; label-long = r .scan .label-long; order-long = r .scan .order-long }
 
-  -- The scan is over.
-  pub all-scanned : {index : List ℕ} → Solvable g → index ≡ indexOf g → getD index (u + 1) 0 ≤ k → Looked g x price t₀ t near (g .edges)
-  all-scanned net is over =
-      let stop = start net is {v = u + 1} (omega (arith, o .search .newest .inside)) in
-      skip (g .edges) (omega (arith, over, stop, i .place, offset-next g u, count-more (isEnd g u) (i .before) (g .edges) (i .among)))
+module _ {g : Graph} {bound : List ℤ} {x : List ℕ} {price room edge list : ℕ → ℕ} {label dist order : List ℕ} {root count d u : ℕ} {f : Front} {k : ℕ}
+    (net : Solvable g) (good : Good g bound x price) (r : RowScan g x price room edge list label dist order root count d u f k) where
+  abbrev now-at : State g x price room (entries dist) (entries label) (entries order) root count (f .reached) d (f .most) (f .end) u
+  now-at = r .scan .state
 
--- After the edge at place k was looked at.
-pub turned : {g : Graph} {x : List ℕ} {price : List ℤ} {t₀ t : Tree} {near : List ℕ} {u k e : ℕ} → At g u k e → Looked g x price t₀ t near (e + 1) →
-    Scanning g x price t₀ t near u (k + 1)
-turned {e = e} a l = record { before = e + 1; among = omega (arith, a .inside); looked = l; place = seen-more a }
+  pub searchable : Searchable (entries order) count (f .reached)
+  searchable = record { few = roomy net (r .scan); inside = λ i a b. omega (arith, entry-in now-at i b, few net) }
 
--- After the scan: what an advance leaves.
-module _ {g : Graph} {bound : List ℤ} {x : List ℕ} {price₀ price price′ : List ℤ} {t₀ t t′ : Tree} {near₀ near : List ℕ} {used : ℕ → ℕ} {root u v : ℕ}
-    {r : Bool}
-    (net : Solvable g) (o : Growing g bound x price₀ price t₀ near₀ root u) (i : Looked g x price t₀ t near (g .edges)) (count : Degrees g x used)
-    (a : Advanced g bound used (entries near) price price′ t t′ v r) where
-  after : Searching g bound x (levels price₀) (levels price′) (entries (t .label)) (entries (t .rank)) (entries near) root (t .count) u (g .edges)
-  after = stepped net (within o i) (a .nearest) (a .moved)
-
-  -- The new label of v.
-  label : entries (t .rank) v ≡ 0 →
-      Label g x (levels price′) (entries (t .label)) (entries (t .rank)) (entries (set (t .label) v (entries near v - 1)))
-      (entries (set (t .rank) v (t .count + 1))) (t .count) v (entries near v - 1)
-  label z =
-      let k = i .notes .right v z (a .nearest .at-new z .0) in
-      record {
-        inside = k .0;
-        to = k .1;
-        from = k .2;
-        new = z;
-        tight = at-tight net (within o i) (a .nearest) (a .moved) z;
-        label-put = put-set (t .label) v (entries near v - 1) (omega (arith, a .nearest .inside, labels-128 o i, few net));
-        rank-put = put-set (t .rank) v (t .count + 1) (omega (arith, a .nearest .inside, ranks-128 o i, few net));
+  module _ {place : ℕ} (n : NearestAt (entries dist) (entries order) count (f .reached) (f .most) place) where
+    module _ (all : (q : ℕ) → q < g .edges → tail g x q ≡ u → Bounded g x price (entries dist) (f .most) q) where
+      -- No open vertex is nearer than the end.
+      pub ends-last : place ≡ f .reached → Left g x price room label dist order root count (f .most) (f .end)
+      ends-last e = record {
+        leaving = left-last now-at all
+            (λ i a b. ⊎-elim (λ h. omega (arith, n .nearest .low i a b, h .1)) (λ h. absurd (omega (arith, e, h .1))) (n .nearest .found));
+        label-long = r .scan .label-long;
+        order-long = r .scan .order-long;
       }
 
-  -- The path ends at v.
-  pub ends : r ≡ true → Ended g bound x (levels price₀) (levels price′) (entries (t′ .label)) (entries (t′ .rank)) root v
-  ends h = ⊎-elim (λ z. at-new z) (λ s. at-row s) (eq-zero-or-pos (entries (t .rank) v))
-    where
-      at-row : 0 < entries (t .rank) v → Ended g bound x (levels price₀) (levels price′) (entries (t′ .label)) (entries (t′ .rank)) root v
-      at-row s = subst (λ k. Ended g bound x (levels price₀) (levels price′) (entries k) (entries (t′ .rank)) root v) (sym (a .old s .0))
-          (subst (λ k. Ended g bound x (levels price₀) (levels price′) (entries (t .label)) (entries k) root v) (sym (a .old s .1))
-          (end-row net after (a .nearest .at-row s .0) s (at-level net (within o i) (a .nearest) (a .moved) s)))
+    -- One is.
+    module _ (ne : place ≢ f .reached) where
+      found : (count ≤ place) × (place < f .reached) × (n .best < f .most) × (n .best ≡ entries dist (entries order place))
+      found = ⊎-elim (λ h. absurd (ne (h .0))) (λ h. h) (n .nearest .found)
 
-      at-new : entries (t .rank) v ≡ 0 → Ended g bound x (levels price₀) (levels price′) (entries (t′ .label)) (entries (t′ .rank)) root v
-      at-new z = subst (λ k. Ended g bound x (levels price₀) (levels price′) (entries k) (entries (t′ .rank)) root v) (sym (a .new z .0))
-          (subst (λ k. Ended g bound x (levels price₀) (levels price′) (entries (set (t .label) v (entries near v - 1))) (entries k) root v) (sym (a .new z .1))
-          (end-column net after (label z) (free o i net count (a .nearest .inside) (a .new z .3 .holds h))))
+      pub open-low : place < mostVertices
+      open-low = omega (arith, found .1, roomy net (r .scan))
 
-  -- The labels stay as many.
-  pub ends-long : length (t′ .label) ≡ 128
-  ends-long =
-      ⊎-elim (λ z. ap length (a .new z .0) ∙ length-set (t .label) v (entries near v - 1) ∙ labels-128 o i)
-      (λ s. ap length (a .old s .0) ∙ labels-128 o i) (eq-zero-or-pos (entries (t .rank) v))
+      pub count-low : count < mostVertices
+      count-low = omega (arith, found .0, open-low)
 
-  -- The vertex that limited the step had no label where no path ends.
-  fresh : r ≡ false → entries (t .rank) v ≡ 0
-  fresh h = ⊎-elim (λ z. z) (λ s. absurd (subst T (sym (a .old s .2) ∙ h) tt)) (eq-zero-or-pos (entries (t .rank) v))
+      pub count-less : count < vertices g
+      count-less = omega (arith, found .0, found .1, not-more now-at)
 
-  -- No path ends, and v is scanned next.
-  pub grown : length price′ ≡ length price → r ≡ false → Growing g bound x price₀ price′ t′ near root v
-  grown l h =
-      let z = fresh h in
-      record {
-        search =
-            subst (λ k. Searching g bound x (levels price₀) (levels price′) (entries k) (entries (t′ .rank)) (entries near) root (t′ .count) v 0)
-            (sym (a .new z .0))
-            (subst
-            (λ k. Searching g bound x (levels price₀) (levels price′) (entries (set (t .label) v (entries near v - 1))) (entries k) (entries near)
-            root (t′ .count) v 0) (sym (a .new z .1))
-            (subst
-            (λ k. Searching g bound x (levels price₀) (levels price′) (entries (set (t .label) v (entries near v - 1)))
-            (entries (set (t .rank) v (t .count + 1))) (entries near) root k v 0) (sym (a .new z .2))
-            (goes-on net after (label z) (not-free o i net count (a .nearest .inside) (a .new z .3 .fails h)))));
-        long = l ∙ o .long;
-        label-long = ap length (a .new z .0) ∙ length-set (t .label) v (entries near v - 1) ∙ labels-128 o i;
-        rank-long = ap length (a .new z .1) ∙ length-set (t .rank) v (t .count + 1) ∙ ranks-128 o i;
-        near-long = i .near-long;
-      }
+      module _ {order′ : List ℕ} {v : ℕ} (t : Settles order order′ place count v) where
+        pub next-in : v < vertices g
+        next-in = omega (arith, t .is, entry-in now-at place (found .1))
 
-  -- A vertex more is labelled, and there are no more than the graph has.
-  pub falls : r ≡ false → (t′ .count ≡ t .count + 1) × (t .count < vertices g)
-  falls h = (
-    a .new (fresh h) .2,
-    omega (
-      arith,
-      within o i .tree .tally,
-      sum-term (vertices g) v (λ w. is (entries (t .rank) w) 0) (a .nearest .inside),
-      ap (λ k. is k 0) (fresh h),
-      is-same 0,
-    ),
-  )
+        dist-is : n .best ≡ entries dist v
+        dist-is = found .3 ∙ ap (entries dist) (sym (t .is))
 
--- By the table of degrees, the root is not saturated.
-pub has-room : {g : Graph} {used : ℕ → ℕ} {root : ℕ} (bound : List ℤ) (x : List ℕ) → Solvable g → Degrees g x used → root < g .rows →
-    used root < limit bound root → degree g x root < limit bound root
-has-room {root = root} bound x net count low l = omega (arith, count root (omega (arith, rows-in net, few net)))
+        pub next-near : entries dist v ≤ level
+        next-near = omega (arith, dist-is, found .2, now-at .top .small)
 
--- What is noted are edges.
-pub noted-inside : {g : Graph} {x : List ℕ} {price : List ℤ} {t₀ t : Tree} {near : List ℕ} {e : ℕ} → Looked g x price t₀ t near e →
-    NotedInside (g .edges) (entries (t .rank)) (entries near)
-noted-inside i w z s = i .notes .right w z s .0
+        pub next-price : (level ≤ price v) × (price v ≤ 2 * level)
+        next-price = (good .least v next-in, good .most v next-in)
 
--- The walk back looks at no weight.
-module _ {s : Shape} {row column : List ℕ} {weight : List ℤ} {x : List ℕ} {root : ℕ} where
-  labels-alone : {label rank : ℕ → ℕ} {k : ℕ} → Labels (graphOf s row column weight) x label rank root k → Labels (graphOf s row column []) x label rank root k
-  labels-alone L = record {
-    of-row = λ w d n a l. let k = L .of-row w d n a l in record { inside = k .inside; mark = k .mark; end = k .end; less = k .less; seen = k .seen };
-    of-column = λ w d i a l. let k = L .of-column w d i a l in record { inside = k .inside; mark = k .mark; end = k .end; less = k .less; seen = k .seen };
-  }
+        swapped : Swap (entries order) (entries order′) place (entries order count) count v
+        swapped = rw (t .order-is) (record {
+          at = getD-set-same (set order place (entries order count)) count v 0 (simp length-set (omega (arith, r .scan .order-long, count-low)));
+          from = λ a. getD-set-other (set order place (entries order count)) count place v 0 a
+              ∙ getD-set-same order place (entries order count) 0 (omega (arith, r .scan .order-long, open-low));
+          other = λ i a b. getD-set-other (set order place (entries order count)) count i v 0 b ∙ getD-set-other order place i (entries order count) 0 a;
+        })
 
-  -- It may start at the end.
-  pub walkable : {v : ℕ} {bound : List ℤ} {start price : ℕ → ℕ} {label rank : List ℕ} → Solvable (graphOf s row column weight) → length label ≡ 128
-      → Ended (graphOf s row column weight) bound x start price (entries label) (entries rank) root v → Walkable s row column label rank root v x
-  walkable net long e = record {
-    bipartite = net .bipartite;
-    sound = net .passed .sound;
-    long = e .good .long;
-    label-long = omega (arith, long, few net);
-    labels = labels-alone (e .labels);
-    root-in = e .root-row;
-    inside = e .inside;
-    seen = e .seen;
-  }
+        order-long′ : length order′ ≡ mostVertices + 1
+        order-long′ = ap length (t .order-is) ∙ simp length-set (r .scan .order-long)
 
-  pub augmented : {v : ℕ} {label rank : ℕ → ℕ} {y : List ℕ} → Augmented (graphOf s row column []) label rank root v x y →
-      Augmented (graphOf s row column weight) label rank root v x y
-  augmented a = record { long = a .long; from-row = a .from-row; from-column = a .from-column; marks = a .marks; kept = a .kept }
+        -- It is settled.
+        pub grown : {f′ : Front} {edge′ : ℕ → ℕ} → ((q : ℕ) → q < g .edges → tail g x q ≡ u → Bounded g x price (entries dist) (f .most) q) →
+            Owned (g .rows) (price v) v (entries dist v) (f .most) (f .end) (f′ .most) (f′ .end) × (f′ .reached ≡ f .reached)
+            → Scanning g x price room label dist order′ root (count + 1) (entries dist v) v f′ edge′ 0 0
+        grown {f′} all own = record {
+          state =
+              subst (λ k. State g x price room (entries dist) (entries label) (entries order′) root (count + 1) k (entries dist v) (f′ .most) (f′ .end) v) (sym (own .1))
+              (next now-at all (found .0) (found .1) (t .is) (omega (arith, dist-is, found .2)) (λ i a b. omega (arith, n .nearest .low i a b, dist-is)) swapped (own .0)
+              (λ a. next-price .0));
+          looked = record { each = λ j a b. absurd (omega arith) };
+          label-long = r .scan .label-long;
+          dist-long = r .scan .dist-long;
+          order-long = order-long′;
+        }
+
+-- What is left, under the names that it has then.
+pub left-as : {g : Graph} {x : List ℕ} {price room : ℕ → ℕ} {label dist order label′ dist′ order′ : List ℕ} {root count end : ℕ} {f f′ : Front} → label′ ≡ label →
+    dist′ ≡ dist → order′ ≡ order → f′ ≡ f → end ≡ f .end → Left g x price room label dist order root count (f .most) (f .end)
+    → Left g x price room label′ dist′ order′ root count (f′ .most) end
+left-as {g} {x} {price} {room} {label} {dist} {order} {label′} {dist′} {order′} {root} {count} {end} {f} {f′} a b c d e l =
+    subst (λ z. Left g x price room z dist′ order′ root count (f′ .most) end) (sym a)
+    (subst (λ z. Left g x price room label z order′ root count (f′ .most) end) (sym b)
+    (subst (λ z. Left g x price room label dist z root count (f′ .most) end) (sym c)
+    (subst (λ (z : Front). Left g x price room label dist order root count (z .most) end) (sym d)
+    (subst (λ z. Left g x price room label dist order root count (f .most) z) (sym e) l))))
+
+-- The prices of settled vertices can move when the search is left.
+pub movable : {g : Graph} {bound : List ℤ} {x : List ℕ} {price room dist label order : ℕ → ℕ} {root count most end k : ℕ} → Solvable g → Good g bound x price →
+    Leaving g x price room dist label order root count most end → k ≤ count → Movable (g .rows) order dist price k most
+movable {g} net good l le =
+    let s = l .state in
+    record {
+      few = omega (arith, s .high, not-more s, few net);
+      small = s .top .small;
+      inside = λ i a. omega (arith, entry-in s i (omega (arith, s .high)), few net);
+      once = λ i j a b e. entry-once s i j (omega (arith, s .high)) (omega (arith, s .high)) e;
+      near = λ i a. omega (arith, s .dists .low _ (entry-settled s i (omega arith)), s .top .least);
+      room = λ i a r. omega (arith, s .top .low _ r (entry-settled s i (omega arith)));
+      under = λ i a. good .most _ (entry-in s i (omega (arith, s .high)));
+    }
+
+-- ---- the small functions
+
+-- The row vertex's own price may be the end.
+pub owned : {rows price u d most end : ℕ} → level ≤ price → u < rows → d + price - level < most → Owned rows price u d most end (d + price - level) u
+owned a r l = takes r (omega arith) l refl
+
+pub not-owned : (rows price u d : ℕ) {most end : ℕ} → level ≤ price → (ltb u rows && ltb (d + price - level) most) ≡ false → Owned rows price u d most end most end
+not-owned rows price u d {most} a e = keeps
+    (λ r. ⊎-elim (λ f. absurd (omega (arith, ltb-false u rows f))) (λ f. omega (arith, ltb-false (d + price - level) most f)) (fails (ltb u rows) (ltb (d + price - level) most) e))
+    refl refl

@@ -1,24 +1,38 @@
--- The degrees along a path that was flipped.
-use Prim.Native.Nat.{ℕ, _+_, _*_, _-_, _≤_, _<_}
+-- A path that was found is flipped and counted: what the walk back may assume, and what is kept.
+use Prim.Native.Nat.{ℕ, _+_, _-_, _≤_, _<_}
 use mathlib.Core.Path.{_≡_, sym, ap, _∙_}
 use mathlib.Core.Logic.{⊎-elim}
-use mathlib.Core.List.{List}
+use mathlib.Core.List.{List, []}
 use native.Mathlib.Omega.{arith}
 use native.Mathlib.Decide.{ℕ-discrete}
 use lib.IntN.{ℤ}
 use lib.ListN.{length, getD, set, length-set}
 use lib.Seq.{getD-set-same, getD-set-other}
-use Rattle.integers.specs.Sum.{sum, is}
-use Rattle.integers.proofs.Sum.{is-same, is-other, is-le, sum-mono, sum-const}
-use Rattle.graph.specs.Limits.{mostVertices, mostEdges}
-use Rattle.graph.specs.Graph.{Graph, firstEnd, secondEnd}
-use Rattle.graph.specs.Subgraph.{markAt, endsAt, degree}
+use Rattle.integers.specs.Sum.{is}
+use Rattle.integers.proofs.Sum.{is-same, is-other}
+use Rattle.graph.specs.Limits.{mostVertices, greatestBound}
+use Rattle.graph.specs.declared.Shape.{Shape}
+use Rattle.graph.specs.Graph.{Graph, graphOf}
+use Rattle.graph.specs.Subgraph.{degree}
+use Rattle.graph.specs.Index.{indexOf}
 use Rattle.checks.proofs.Counting.{add-at}
-use Rattle.tree.specs.Method.{Solvable, Augmented}
-use Rattle.tree.specs.Tree.{entries, Degrees, Ended}
-use Rattle.tree.proofs.Solvable.{few, small, rows-in}
+use Rattle.tree.specs.Method.{Solvable, Labels, Augmented, Sought}
+use Rattle.tree.specs.Tree.{entries, naturals, Ended}
+use Rattle.tree.specs.Lists.{nowhere, Listing, Between}
+use Rattle.tree.proofs.Solvable.{few, rows-in}
 use Rattle.tree.proofs.Leading.{lt-or-ge}
-use Rattle.search.specs.Search.{Countable, PathCounted}
+use Rattle.tree.proofs.End.{sought}
+use Rattle.tree.proofs.Lists.{ends-second, degree-less, unweigh}
+use Rattle.augment.specs.Augment.{Walkable, Ranked, Relistable}
+use Rattle.search.proofs.Spans as Spans
+use Rattle.search.specs.declared.Span.{Span}
+use Rattle.search.specs.Search.{ListOf, Countable, PathCounted}
+
+-- The list of the vertices reached starts with the root.
+pub first-set : (order : List ℕ) (root : ℕ) → length order ≡ mostVertices + 1 → entries (set order 0 root) 0 ≡ root
+first-set order root long = getD-set-same order 0 root 0 (omega (arith, long))
+
+-- ---- counting
 
 one-more : (d : List ℕ) (i v : ℕ) → i < length d → getD (set d i (getD d i 0 + 1)) v 0 ≡ getD d v 0 + is i v
 one-more d i v l = omega (arith, add-at d i 1 v l)
@@ -38,71 +52,123 @@ one-less d i v l some = elim (ℕ-discrete i v) [
 ]
 
 -- The root is counted, and then the end.
-module _ (d : List ℕ) {rows root v : ℕ} (long : length d ≡ 128) (p : Countable rows root v (entries d)) where
+module _ (d : List ℕ) {rows root v : ℕ} (p : Countable rows root v (entries d)) (long : length d ≡ mostVertices) where
   abbrev counted : List ℕ
-  counted = set d root (getD d root 0 + 1)
+  counted = set d root (getD d root 0 - 1)
+
+  counted-long : length counted ≡ mostVertices
+  counted-long = length-set d root (getD d root 0 - 1) ∙ long
 
   v-inside : v < length counted
-  v-inside = omega (arith, long, p .end-in, length-set d root (getD d root 0 + 1))
+  v-inside = omega (arith, counted-long, p .end-in)
 
-  root-counted : (h : ℕ) → getD counted h 0 ≡ getD d h 0 + is root h
-  root-counted h = one-more d root h (omega (arith, long, p .root-in))
+  root-counted : (h : ℕ) → getD counted h 0 + is root h ≡ getD d h 0
+  root-counted h = one-less d root h (omega (arith, long, p .root-in)) (p .root-room)
 
-  pub end-few : getD counted v 0 ≤ 2 * mostEdges + 1
-  end-few = omega (arith, root-counted v, p .end-few, is-le root v)
+  pub end-few : v < rows → getD counted v 0 ≤ greatestBound
+  end-few low = omega (arith, root-counted v, p .end-few low)
 
-  pub end-some : v < rows → 1 ≤ getD counted v 0
-  end-some low = omega (arith, root-counted v, p .loses low)
+  pub end-some : rows ≤ v → 1 ≤ getD counted v 0
+  end-some high = omega (arith, root-counted v, p .end-room high, is-other root v (λ e. omega (arith, e, p .root-row)))
 
-  pub row-counted : v < rows → PathCounted rows root v (entries d) (entries (set counted v (getD counted v 0 - 1)))
-  row-counted low = record {
-    from-row = λ l h b. one-less counted v h v-inside (end-some low) ∙ root-counted h;
-    from-column = λ l. absurd (omega arith);
+  pub row-counted : v < rows →
+      PathCounted rows root v (entries d) (entries (set counted v (getD counted v 0 + 1))) × (length (set counted v (getD counted v 0 + 1)) ≡ mostVertices)
+  row-counted low = (
+    record { from-row = λ l h. omega (arith, one-more counted v h v-inside, root-counted h); from-column = λ l. absurd (omega arith) },
+    length-set counted v (getD counted v 0 + 1) ∙ counted-long,
+  )
+
+  pub column-counted : rows ≤ v →
+      PathCounted rows root v (entries d) (entries (set counted v (getD counted v 0 - 1))) × (length (set counted v (getD counted v 0 - 1)) ≡ mostVertices)
+  column-counted high = (
+    record { from-row = λ l. absurd (omega arith); from-column = λ l h. omega (arith, one-less counted v h v-inside (end-some high), root-counted h) },
+    length-set counted v (getD counted v 0 - 1) ∙ counted-long,
+  )
+
+-- ---- the walk back
+
+-- Labels and walks do not depend on the weights.
+module _ {s : Shape} {row column x : List ℕ} {weight : List ℤ} {rank : ℕ → ℕ} {root : ℕ} where
+  labels-alone : {label : ℕ → ℕ} {k : ℕ} → Labels (graphOf s row column weight) x label rank root k → Labels (graphOf s row column []) x label rank root k
+  labels-alone l = record {
+    of-row = λ v d n a b.
+        let k = l .of-row v d n a b in
+        record { inside = k .inside; mark = k .mark; end = k .end; less = k .less; seen = k .seen };
+    of-column = λ v d i a b.
+        let k = l .of-column v d i a b in
+        record { inside = k .inside; mark = k .mark; end = k .end; less = k .less; seen = k .seen };
   }
 
-  pub column-counted : rows ≤ v → PathCounted rows root v (entries d) (entries (set counted v (getD counted v 0 + 1)))
-  column-counted low = record {
-    from-row = λ l. absurd (omega arith);
-    from-column = λ l h b. omega (arith, one-more counted v h v-inside, root-counted h);
+  augmented : {v : ℕ} {label : ℕ → ℕ} {y : List ℕ} → Augmented (graphOf s row column []) label rank root v x y → Augmented (graphOf s row column weight) label rank root v x y
+  augmented a = record { long = a .long; from-row = a .from-row; from-column = a .from-column; marks = a .marks; kept = a .kept }
+
+module _ {s : Shape} {row column : List ℕ} {weight bound : List ℤ} {x label : List ℕ} {start price : ℕ → ℕ} {root v : ℕ} (net : Solvable (graphOf s row column weight))
+    (e : Ended (graphOf s row column weight) bound x start price (entries label) root v) where
+  walkable : Walkable s row column label (e .rank) root v mostVertices x
+  walkable = record {
+    bipartite = net .bipartite;
+    sound = net .passed .sound;
+    long = e .good .long;
+    labels = labels-alone (e .labels);
+    root-in = e .root-row;
+    inside = e .inside;
+    seen = e .seen;
+    low = e .few;
   }
 
--- No degree is over twice the number of edges.
-degree-most : {g : Graph} (x : List ℕ) (v : ℕ) → Solvable g → ((e : ℕ) → markAt x e ≤ 1) → degree g x v ≤ 2 * mostEdges
-degree-most {g} x v net marks =
-    omega (
-      arith,
-      sum-mono (g .edges) (λ e. markAt x e * endsAt g v e) (λ e. 2)
-          (λ e l. two (markAt x e) (is (firstEnd g e) v) (is (secondEnd g e) v) (marks e) (is-le (firstEnd g e) v) (is-le (secondEnd g e) v)),
-      sum-const (g .edges) 2,
-      small net,
-    )
-  where
-    two : (m a b : ℕ) → m ≤ 1 → a ≤ 1 → b ≤ 1 → m * (a + b) ≤ 2
-    two m a b p q r = elim (ℕ-discrete m 0) [
-      | yes e ↦ omega (arith, ap (λ k. k * (a + b)) e)
-      | no e ↦ let i : m ≡ 1 = omega (arith, e) in omega (arith, ap (λ k. k * (a + b)) i)
-    ]
+  pub ranked : Ranked s row column label root v mostVertices x
+  ranked = record { rank = e .rank; walkable = walkable }
 
-module _ {g : Graph} {bound : List ℤ} {x y : List ℕ} {start price label rank used : ℕ → ℕ} {root v : ℕ}
-    (net : Solvable g) (e : Ended g bound x start price label rank root v) (before : Degrees g x used) (a : Augmented g label rank root v x y) where
-  root-in : root < mostVertices
-  root-in = omega (arith, e .root-row, rows-in net, few net)
+-- The lists before the walk: where the end is a column vertex, its label is an edge that is not chosen.
+pub relistable : {s : Shape} {row column index : List ℕ} {weight bound : List ℤ} {x : List ℕ} {start price room label : ℕ → ℕ} {root v : ℕ}
+    (list : List ℤ) (place : List ℕ) {p : Span}
+    → Solvable (graphOf s row column weight) → index ≡ indexOf (graphOf s row column weight) →
+    Between (graphOf s row column weight) bound x start room (naturals list) (entries place)
+    → Ended (graphOf s row column weight) bound x start price label root v → nowhere (graphOf s row column weight) ≤ length list → s .edges ≤ length place →
+    ListOf (s .rows) index bound room v p → Relistable (graphOf s row column []) x list place v (p .stop)
+relistable {s} {row} {column} {weight = weight} {x = x} {label = label} {v = v} list place net is b e long place-long at = record {
+  lists = unweigh (b .lists);
+  list-long = long;
+  place-long = place-long;
+  gap-is = λ a. Spans.listed-at net is (b .rooms) (e .inside) at a .1;
+  fits = λ a.
+      let g : Graph = graphOf s row column weight in
+      let k = e .labels .of-column v a (e .inside) (e .seen) (omega arith) in
+      degree-less g (net .passed .sound) x (b .good .marks) v (label v) (k .inside) (k .mark) (ends-second g (label v) (k .end));
+}
 
-  end-in : v < mostVertices
-  end-in = omega (arith, e .inside, few net)
-
-  -- The path can be counted.
-  pub countable : Countable (g .rows) root v used
+module _ {g : Graph} {bound : List ℤ} {x : List ℕ} {start price room list place label : ℕ → ℕ} {root v : ℕ} (net : Solvable g)
+    (b : Between g bound x start room list place) (e : Ended g bound x start price label root v) (some : 0 < room root) where
+  pub countable : Countable (g .rows) root v room
   countable = record {
-    root-in = root-in;
-    end-in = end-in;
-    root-few = omega (arith, before root root-in, degree-most x root net (e .good .marks));
-    end-few = omega (arith, before v end-in, degree-most x v net (e .good .marks));
-    loses = λ low. omega (arith, before v end-in, a .from-row low v, is-same v);
+    root-in = omega (arith, e .root-row, rows-in net, few net);
+    end-in = omega (arith, e .inside, few net);
+    root-row = e .root-row;
+    root-room = some;
+    end-few = λ l. omega (arith, b .rooms .each v (e .inside), b .rooms .few v (e .inside));
+    end-room = λ l. omega (arith, b .rooms .each v (e .inside), e .at-column l);
   }
 
-  -- The table of degrees is kept.
-  pub degrees-kept : {used′ : ℕ → ℕ} → PathCounted (g .rows) root v used used′ → Degrees g y used′
-  degrees-kept p h l =
-      ⊎-elim (λ r. omega (arith, before h l, a .from-row r h, p .from-row r h l)) (λ c. omega (arith, before h l, a .from-column c h, p .from-column c h l))
-      (lt-or-ge v (g .rows))
+  -- The walk from the end leaves what a search is to leave.
+  module _ {y : List ℕ} (path : Augmented g label (e .rank) root v x y) where
+    pub found : Sought g bound root x start y price
+    found = sought e (omega (arith, b .rooms .each root (omega (arith, e .root-row, rows-in net)))) path
+
+    pub kept : {room′ list′ place′ : ℕ → ℕ} → PathCounted (g .rows) root v room room′ → Listing g y (degree g y) list′ place′ (nowhere g) →
+        Between g bound y price room′ list′ place′
+    kept {room′} c t = record {
+      good = found .good;
+      rooms = record {
+        each = λ h l. ⊎-elim (λ a. omega (arith, c .from-row a h, path .from-row a h, b .rooms .each h l))
+            (λ a. omega (arith, c .from-column a h, path .from-column a h, b .rooms .each h l)) (lt-or-ge v (g .rows));
+        few = b .rooms .few;
+      };
+      lists = t;
+    }
+
+-- The walk, by the ranks of the end.
+pub walked : {s : Shape} {row column : List ℕ} {weight bound : List ℤ} {x y label : List ℕ} {start price : ℕ → ℕ} {root v : ℕ} → Solvable (graphOf s row column weight) →
+    (e : Ended (graphOf s row column weight) bound x start price (entries label) root v) →
+    ((rank : ℕ → ℕ) → Walkable s row column label rank root v mostVertices x → Augmented (graphOf s row column []) (entries label) rank root v x y)
+    → Augmented (graphOf s row column weight) (entries label) (e .rank) root v x y
+walked net e w = augmented (w (e .rank) (walkable net e))

@@ -1,36 +1,49 @@
--- What one advance of a search does, and how a path that was flipped is counted.
+-- Where a search finds the list of a vertex, and how a path that was flipped is counted.
 use Prim.Native.Nat.{ℕ, _+_, _*_, _-_, _≤_, _<_}
 use mathlib.Core.Path.{_≡_}
-use mathlib.Core.Bool.{Bool, true}
 use mathlib.Core.List.{List}
 use lib.IntN.{ℤ}
-use lib.ListN.{set}
+use lib.ListN.{length}
 use Rattle.integers.specs.Sum.{is}
-use Rattle.graph.specs.Limits.{mostVertices, mostEdges}
-use Rattle.graph.specs.Graph.{Graph, vertices}
-use Rattle.tree.specs.declared.Tree.{Tree}
-use Rattle.tree.specs.Tree.{entries, levels, slack, FreeColumn, Nearest, Moved}
-use Rattle.scan.specs.Scan.{Decides}
+use Rattle.graph.specs.Limits.{mostVertices, mostEdges, greatestBound}
+use Rattle.graph.specs.Graph.{Graph}
+use Rattle.tree.specs.Method.{limit}
+use Rattle.tree.specs.Tree.{entries}
+use Rattle.tree.specs.Lists.{Between}
+use Rattle.search.specs.declared.Span.{Span}
 
--- The dual step was made, and vertex v limits it: it is the path's end, or has a new label in the tree.
-pub record Advanced (g : Graph) (bound : List ℤ) (used near : ℕ → ℕ) (price price′ : List ℤ) (t t′ : Tree) (v : ℕ) (ended : Bool) : Type 0 where
-  pub by : ℕ
-  pub nearest : Nearest (g .rows) (vertices g) (slack g (levels price)) (levels price) (entries (t .rank)) near (vertices g) by v
-  pub moved : Moved (g .rows) (vertices g) by (entries (t .rank)) (levels price) (levels price′)
-  pub old : 0 < entries (t .rank) v → (t′ .label ≡ t .label) × (t′ .rank ≡ t .rank) × (ended ≡ true)
-  pub new : entries (t .rank) v ≡ 0
-      → (t′ .label ≡ set (t .label) v (near v - 1)) × (t′ .rank ≡ set (t .rank) v (t .count + 1)) × (t′ .count ≡ t .count + 1) × Decides ended (FreeColumn (g .rows) bound used v)
+-- What is kept between two searches, with some places of the chosen edges in the lists.
+pub record Known (g : Graph) (bound : List ℤ) (x : List ℕ) (price room list : ℕ → ℕ) : Type 0 where
+  pub place : ℕ → ℕ
+  pub between : Between g bound x price room list place
 
--- A path from the root to vertex v can be counted: both are vertices, their degrees are no greater than edges allow, and v has an edge to lose where
--- it is a row vertex, or is the root.
-pub record Countable (rows root v : ℕ) (used : ℕ → ℕ) : Type 0 where
+-- The list of vertex u can be found: the offsets are those of an index, and no vertex has more room than its bound.
+pub record Findable (rows : ℕ) (index : List ℕ) (bound : List ℤ) (room : ℕ → ℕ) (u : ℕ) : Type 0 where
+  pub inside : u < mostVertices
+  pub bounded : u < length bound
+  pub offset-in : u < length index
+  pub rows-in : rows < length index
+  pub few : entries index u ≤ 2 * mostEdges
+  pub after : rows ≤ u → entries index rows ≤ entries index u
+  pub room-in : room u ≤ limit bound u
+  pub bound-in : limit bound u ≤ greatestBound
+
+-- The list of vertex u: of a row vertex it is empty; that of a column vertex starts at its offset, counted from that of the first column vertex, and has
+-- as many places as the vertex has chosen edges, which is what it has no room left for.
+pub record ListOf (rows : ℕ) (index : List ℕ) (bound : List ℤ) (room : ℕ → ℕ) (u : ℕ) (p : Span) : Type 0 where
+  pub of-row : u < rows → (p .start ≡ 0) × (p .stop ≡ 0)
+  pub of-column : rows ≤ u → (p .start ≡ entries index u - entries index rows) × (p .stop ≡ entries index u - entries index rows + (limit bound u - room u))
+
+-- The rooms can be counted after a path from the root to vertex v: both are vertices, the root has room, and v too, where it is a column vertex.
+pub record Countable (rows root v : ℕ) (room : ℕ → ℕ) : Type 0 where
   pub root-in : root < mostVertices
   pub end-in : v < mostVertices
-  pub root-few : used root ≤ 2 * mostEdges
-  pub end-few : used v ≤ 2 * mostEdges
-  pub loses : v < rows → 0 < used v + is root v
+  pub root-row : root < rows
+  pub root-room : 0 < room root
+  pub end-few : v < rows → room v ≤ greatestBound
+  pub end-room : rows ≤ v → 0 < room v
 
--- The degrees after a path from the root to vertex v was flipped, as `Augmented` says of the subgraph.
-pub record PathCounted (rows root v : ℕ) (used used′ : ℕ → ℕ) : Type 0 where
-  pub from-row : v < rows → (h : ℕ) → h < mostVertices → used′ h + is v h ≡ used h + is root h
-  pub from-column : rows ≤ v → (h : ℕ) → h < mostVertices → used′ h ≡ used h + (is v h + is root h)
+-- The rooms after a path from the root to vertex v was flipped: as degrees grow, rooms fall.
+pub record PathCounted (rows root v : ℕ) (room room′ : ℕ → ℕ) : Type 0 where
+  pub from-row : v < rows → (h : ℕ) → room′ h + is root h ≡ room h + is v h
+  pub from-column : rows ≤ v → (h : ℕ) → room′ h + (is v h + is root h) ≡ room h

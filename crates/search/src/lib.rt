@@ -1,70 +1,64 @@
-// One search of the solver: from a row vertex that is not saturated, an alternating tree grows until a path ends, and the path is flipped.
+// One search of the solver: from a row vertex that is not saturated, vertices are settled by their distance until a path ends, and the path is flipped.
+use checks::both;
+use graph::MOST_EDGES;
 use graph::MOST_VERTICES;
 use graph::Shape;
-use tree::Tree;
-ghost use Prim.Native.Nat.{ℕ, _<_};
+use scan::Front;
+use tree::FAR;
+use tree::LEVEL;
+use tree::MOST_LISTED;
+use tree::pick;
+ghost use Prim.Native.Nat.{_+_, _*_, _≤_, _<_};
 ghost use mathlib.Core.Path.{_≡_};
-ghost use lib.ListN.{length};
+ghost use lib.ListN.{length, set, replicate};
 ghost use Rattle.graph.specs.Limits.{mostVertices};
 ghost use Rattle.graph.specs.Graph.{graphOf, verticesIn};
 ghost use Rattle.graph.specs.Index.{indexOf};
-ghost use Rattle.tree.specs.Method.{limit, Solvable, Good, Sought};
-ghost use Rattle.tree.specs.Tree.{entries, levels, Levelled, NotedInside, Degrees, Ended};
-ghost use Rattle.search.specs.Search.{Advanced, Countable, PathCounted};
+ghost use Rattle.tree.specs.Method.{level, Solvable, Sought};
+ghost use Rattle.tree.specs.Tree.{entries, naturals, Ended};
+ghost use Rattle.tree.specs.Front.{far, Owned};
+ghost use Rattle.tree.specs.Lists.{Kept, nowhere, Between, Arrays};
+ghost use Rattle.search.specs.Search.{Known, Findable, ListOf, Countable, PathCounted};
 
-// The tree after a dual step, and the vertex that limited it, which ends the path or is scanned next.
-struct Progress {
-    tree: Tree,
-    vertex: usize,
-    ended: bool,
+// The places of a list: from start to before stop.
+struct Span {
+    start: u32,
+    stop: u32,
 }
 
-// Makes the dual step that brings the search on, and labels the vertex that limits it.
-fn advance(
-    s: Shape,
-    row: &[u32],
-    column: &[u32],
-    weight: &[i32],
-    bound: &[i32],
-    price: &mut [i32],
-    degree: &[u32; MOST_VERTICES],
-    near: &[u32; MOST_VERTICES],
-    t: Tree,
-    root: usize,
-) -> Progress
-    requires { ⌜ Solvable (graphOf s (now row) (now column) (now weight)) ⌝ }
-    requires { ⌜ Levelled (verticesIn s) (now price) × NotedInside (s .edges) (entries (t .rank)) (entries (now near)) ⌝ }
-    requires { ⌜ (root < s .rows) × (0 < entries (t .rank) root) ⌝ }
-    requires { ⌜ (length (now bound) ≡ verticesIn s) × ((v : ℕ) → v < verticesIn s → entries (t .rank) v ≡ 0 → t .count < mostVertices) ⌝ }
-    ensures { λ r. ⌜ Advanced (graphOf s (now (row .entry)) (now (column .entry)) (now (weight .entry))) (now (bound .entry)) (entries (now (degree .entry))) (entries (now (near .entry))) (now (price .entry)) (now (price .exit)) t (r .tree) (r .vertex) (r .ended) ⌝ }
+// Where the chosen edges of vertex u are listed, if it is a column vertex.
+fn list_of(rows: u32, index: &[u32], bound: &[i32], room: &[u32; MOST_VERTICES], u: usize) -> Span
+    requires { ⌜ Findable rows (now index) (now bound) (entries (now room)) u ⌝ }
+    ensures { λ p. ⌜ ListOf rows (now (index .entry)) (now (bound .entry)) (entries (now (room .entry))) u p ⌝ }
 {
-    let least = dual_step::nearest(s, row, column, weight, price, &t.rank, near, root);
-    let v = least.vertex;
-    dual_step::dual_step(price, &t.rank, s.rows, least.by);
-    if t.rank[v] > 0 {
-        return Progress {
-            tree: t,
-            vertex: v,
-            ended: true,
+    if u < rows as usize {
+        return Span { start: 0, stop: 0 };
+    }
+    let start = index[u] - index[rows as usize];
+    let used = integers::natural_at(bound, u) - room[u];
+    Span {
+        start,
+        stop: start + used,
+    }
+}
+
+// The path may end at vertex u of this price, which was settled at distance d, if it is a row vertex.
+fn own(rows: u32, price: u32, u: u32, d: u32, f: Front) -> Front
+    requires { ⌜ (level ≤ price) × (price ≤ 2 * level) × (d ≤ level) ⌝ }
+    ensures { λ r. ⌜ Owned rows price u d (f .most) (f .end) (r .most) (r .end) × (r .reached ≡ f .reached) ⌝ }
+{
+    let most = d + price - LEVEL;
+    if both(u < rows, most < f.most) {
+        return Front {
+            most,
+            end: u,
+            reached: f.reached,
         };
     }
-    let next = tree::labelled(t, v, near[v] - 1);
-    let ended = scan::is_free(s.rows, bound, degree, v);
-    Progress {
-        tree: next,
-        vertex: v,
-        ended,
-    }
+    f
 }
 
-// The tree of a search, and the end of its path.
-struct TreeEnd {
-    tree: Tree,
-    end: usize,
-}
-
-// Grows the tree from the root until a path ends: the edges of each labelled vertex, which the index lists, are looked at once, and the vertex that
-// limits the next dual step follows.
+// Settles vertices, nearest first, and looks at the edges of each, until no open vertex is nearer than the end of a path; then moves the prices.
 fn find_end(
     s: Shape,
     row: &[u32],
@@ -72,74 +66,105 @@ fn find_end(
     weight: &[i32],
     bound: &[i32],
     index: &[u32],
+    edge: &[u32; MOST_EDGES],
+    head: &[u32; MOST_EDGES],
+    worth: &[u32; MOST_EDGES],
+    stop: &[u32; MOST_VERTICES],
     chosen: &[u8],
-    price: &mut [i32],
-    degree: &[u32; MOST_VERTICES],
+    list: &[i32],
+    price: &mut [u32; MOST_VERTICES],
+    room: &[u32; MOST_VERTICES],
+    label: &mut [u32; MOST_VERTICES],
+    distance: &mut [u32; MOST_VERTICES],
+    order: &mut [u32; MOST_LISTED],
     root: usize,
-) -> TreeEnd
+) -> usize
     requires { ⌜ Solvable (graphOf s (now row) (now column) (now weight)) ⌝ }
     requires { ⌜ now index ≡ indexOf (graphOf s (now row) (now column) (now weight)) ⌝ }
-    requires { ⌜ Good (graphOf s (now row) (now column) (now weight)) (now bound) (now chosen) (levels (now price)) ⌝ }
-    requires { ⌜ Degrees (graphOf s (now row) (now column) (now weight)) (now chosen) (entries (now degree)) ⌝ }
-    requires { ⌜ (length (now bound) ≡ verticesIn s) × (length (now price) ≡ verticesIn s) × (root < s .rows) ⌝ }
-    ensures { λ r. ⌜ Ended (graphOf s (now (row .entry)) (now (column .entry)) (now (weight .entry))) (now (bound .entry)) (now (chosen .entry)) (levels (now (price .entry))) (levels (now (price .exit))) (entries (r .tree .label)) (entries (r .tree .rank)) root (r .end) × (length (r .tree .label) ≡ mostVertices) ⌝ }
+    requires { ⌜ Kept (graphOf s (now row) (now column) (now weight)) (entries (now edge)) (entries (now head)) (entries (now worth)) (entries (now stop)) (s .rows) ⌝ }
+    requires { ⌜ Known (graphOf s (now row) (now column) (now weight)) (now bound) (now chosen) (entries (now price)) (entries (now room)) (naturals (now list)) ⌝ }
+    requires { ⌜ (length (now bound) ≡ verticesIn s) × (nowhere (graphOf s (now row) (now column) (now weight)) ≤ length (now list)) × (length (now price) ≡ mostVertices) × (root < s .rows) ⌝ }
+    requires { ⌜ (now distance ≡ set (replicate mostVertices far) root 0) × (entries (now order) 0 ≡ root) × (length (now label) ≡ mostVertices) × (length (now order) ≡ mostVertices + 1) ⌝ }
+    ensures { λ end. ⌜ Ended (graphOf s (now (row .entry)) (now (column .entry)) (now (weight .entry))) (now (bound .entry)) (now (chosen .entry)) (entries (now (price .entry))) (entries (now (price .exit))) (entries (now (label .exit))) root end × (length (now (price .exit)) ≡ mostVertices) × (length (now (label .exit)) ≡ mostVertices) × (length (now (order .exit)) ≡ mostVertices + 1) ⌝ }
 {
-    let mut t = tree::rooted(root);
-    let mut near = [0u32; MOST_VERTICES];
+    let mut f = Front {
+        most: price[root] - LEVEL,
+        end: root as u32,
+        reached: 1,
+    };
+    let mut count = 1u32;
     let mut u = root;
-    let n = bound.len();
+    let mut d = 0u32;
     let end = 'search: loop {
-        let stop = index[u + 1];
+        let p = list_of(s.rows, index, bound, room, u);
+        f = scan::scan_column(
+            s,
+            row,
+            column,
+            weight,
+            list,
+            price,
+            label,
+            distance,
+            order,
+            p.start,
+            p.stop,
+            u,
+            d,
+            f,
+        );
+        let base = d + price[u];
+        let last = pick(u < s.rows as usize, stop[u], 0);
         let mut k = index[u];
-        while k < stop {
-            let e = scan::edge_at(index, n, k);
-            if scan::visit(
-                s,
-                row,
-                column,
-                weight,
-                bound,
-                chosen,
+        while k < last {
+            let at = k as usize;
+            let e = edge[at];
+            f = scan::look(
                 price,
-                degree,
-                &t.rank,
-                &mut near,
-                u,
+                room,
+                label,
+                distance,
+                order,
+                base,
+                head[at],
+                worth[at],
+                chosen[e as usize],
                 e,
-            ) {
-                let arc = tree::arc_at(s, row, column, chosen, e);
-                let w = arc.head;
-                t = tree::labelled(t, w, e as u32);
-                break 'search w;
+                f,
+            );
+            if f.most == d {
+                break 'search f.end;
             }
             k += 1;
         }
-        let a = advance(s, row, column, weight, bound, price, degree, &near, t, root);
-        let next = a.tree;
-        let v = a.vertex;
-        t = next;
-        if a.ended {
-            break 'search v;
+        let at = dual_step::nearest(distance, order, count, f.reached, f.most);
+        if at == f.reached {
+            break 'search f.end;
         }
-        u = v;
+        let v = dual_step::settle(order, at, count);
+        count += 1;
+        u = v as usize;
+        d = distance[u];
+        f = own(s.rows, price[u], v, d, f);
     };
-    TreeEnd { tree: t, end }
+    dual_step::move_prices(price, s.rows, order, distance, count, f.most);
+    end as usize
 }
 
-// Counts the path from the root to its end: the root has one edge more, and so has a column vertex at the end; a row vertex there has one less.
-fn count_path(degree: &mut [u32], rows: u32, root: usize, end: usize)
-    requires { ⌜ (length (now degree) ≡ mostVertices) × Countable rows root end (entries (now degree)) ⌝ }
-    ensures { λ _. ⌜ PathCounted rows root end (entries (now (degree .entry))) (entries (now (degree .exit))) ⌝ }
+// Counts the path from the root to its end: the root has less room, and so has a column vertex at the end; a row vertex there has more.
+fn take_room(room: &mut [u32; MOST_VERTICES], rows: u32, root: usize, end: usize)
+    requires { ⌜ Countable rows root end (entries (now room)) × (length (now room) ≡ mostVertices) ⌝ }
+    ensures { λ _. ⌜ PathCounted rows root end (entries (now (room .entry))) (entries (now (room .exit))) × (length (now (room .exit)) ≡ mostVertices) ⌝ }
 {
-    degree[root] += 1;
+    room[root] -= 1;
     if end < rows as usize {
-        degree[end] -= 1;
+        room[end] += 1;
     } else {
-        degree[end] += 1;
+        room[end] -= 1;
     }
 }
 
-// One search from the root, a row vertex that is not saturated, by the table of degrees, which is kept: the root then has one edge more, or the price 0.
+// One search from the root, a row vertex that is not saturated: the root then has one edge more, or the price 0.
 pub fn search(
     s: Shape,
     row: &[u32],
@@ -147,36 +172,65 @@ pub fn search(
     weight: &[i32],
     bound: &[i32],
     index: &[u32],
+    edge: &[u32; MOST_EDGES],
+    head: &[u32; MOST_EDGES],
+    worth: &[u32; MOST_EDGES],
+    stop: &[u32; MOST_VERTICES],
     chosen: &mut [u8],
-    price: &mut [i32],
-    degree: &mut [u32; MOST_VERTICES],
+    list: &mut [i32],
+    place: &mut [u32; MOST_EDGES],
+    price: &mut [u32; MOST_VERTICES],
+    room: &mut [u32; MOST_VERTICES],
+    label: &mut [u32; MOST_VERTICES],
+    order: &mut [u32; MOST_LISTED],
     root: usize,
 )
     requires { ⌜ Solvable (graphOf s (now row) (now column) (now weight)) ⌝ }
     requires { ⌜ now index ≡ indexOf (graphOf s (now row) (now column) (now weight)) ⌝ }
-    requires { ⌜ Good (graphOf s (now row) (now column) (now weight)) (now bound) (now chosen) (levels (now price)) ⌝ }
-    requires { ⌜ Degrees (graphOf s (now row) (now column) (now weight)) (now chosen) (entries (now degree)) ⌝ }
-    requires { ⌜ (length (now bound) ≡ verticesIn s) × (length (now price) ≡ verticesIn s) × (root < s .rows) ⌝ }
-    requires { ⌜ entries (now degree) root < limit (now bound) root ⌝ }
-    ensures { λ _. ⌜ Sought (graphOf s (now (row .entry)) (now (column .entry)) (now (weight .entry))) (now (bound .entry)) root (now (chosen .entry)) (levels (now (price .entry))) (now (chosen .exit)) (levels (now (price .exit))) ⌝ }
-    ensures { λ _. ⌜ Degrees (graphOf s (now (row .entry)) (now (column .entry)) (now (weight .entry))) (now (chosen .exit)) (entries (now (degree .exit))) ⌝ }
+    requires { ⌜ Kept (graphOf s (now row) (now column) (now weight)) (entries (now edge)) (entries (now head)) (entries (now worth)) (entries (now stop)) (s .rows) ⌝ }
+    requires { ⌜ Between (graphOf s (now row) (now column) (now weight)) (now bound) (now chosen) (entries (now price)) (entries (now room)) (naturals (now list)) (entries (now place)) ⌝ }
+    requires { ⌜ Arrays (s .edges) (now price) (now room) (now place) (now label) (now order) ⌝ }
+    requires { ⌜ (length (now bound) ≡ verticesIn s) × (nowhere (graphOf s (now row) (now column) (now weight)) ≤ length (now list)) ⌝ }
+    requires { ⌜ (root < s .rows) × (0 < entries (now room) root) ⌝ }
+    ensures { λ _. ⌜ Sought (graphOf s (now (row .entry)) (now (column .entry)) (now (weight .entry))) (now (bound .entry)) root (now (chosen .entry)) (entries (now (price .entry))) (now (chosen .exit)) (entries (now (price .exit))) ⌝ }
+    ensures { λ _. ⌜ Between (graphOf s (now (row .entry)) (now (column .entry)) (now (weight .entry))) (now (bound .entry)) (now (chosen .exit)) (entries (now (price .exit))) (entries (now (room .exit))) (naturals (now (list .exit))) (entries (now (place .exit))) ⌝ }
+    ensures { λ _. ⌜ Arrays (s .edges) (now (price .exit)) (now (room .exit)) (now (place .exit)) (now (label .exit)) (now (order .exit)) ⌝ }
 {
-    let found = find_end(
+    let mut distance = [FAR; MOST_VERTICES];
+    distance[root] = 0;
+    order[0] = root as u32;
+    let end = find_end(
         s,
         row,
         column,
         weight,
         bound,
         index,
+        edge,
+        head,
+        worth,
+        stop,
         chosen,
+        list,
         price,
-        degree,
+        room,
+        label,
+        &mut distance,
+        order,
         root,
     );
-    let t = found.tree;
-    let end = found.end;
-    let label = t.label;
-    let rank = t.rank;
-    augment::augment(chosen, s, row, column, &label, &rank, root, end);
-    count_path(degree, s.rows, root, end);
+    let p = list_of(s.rows, index, bound, room, end);
+    augment::augment(
+        chosen,
+        list,
+        place,
+        s,
+        row,
+        column,
+        label,
+        root,
+        end,
+        p.stop,
+    );
+    take_room(room, s.rows, root, end);
 }

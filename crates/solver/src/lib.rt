@@ -103,6 +103,8 @@ pub fn solve(
         chosen,
         vertex_price,
         edge_price,
+        workspace,
     );
+    lent::clear_integers(workspace);
     SolveAnswer::Solved
 }

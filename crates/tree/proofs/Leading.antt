@@ -12,10 +12,9 @@ use borrow.Author.Tests.{eq-eqb, ne-eqb}
 use lib.IntN.{ℤ}
 use lib.ListN.{length, set}
 use lib.Seq.{getD-set-same, getD-set-other}
-use Rattle.graph.specs.Graph.{Graph, vertices, firstEnd, secondEnd}
+use Rattle.graph.specs.Graph.{Graph, firstEnd, secondEnd}
 use Rattle.graph.specs.Subgraph.{markAt}
 use Rattle.tree.specs.Method.{value, cost, Solvable, Good}
-use Rattle.tree.proofs.Solvable.{rows-in, first-to, second-to}
 use Rattle.tree.specs.Tree.{entries, tail, head, apart, slack}
 
 pub lt-or-ge : (a b : ℕ) → (a < b) ⊎ (b ≤ a)
@@ -64,9 +63,6 @@ apart-over a b h = omega arith
 pub apart-under : (a b : ℕ) → a ≤ b → apart a b + a ≡ b
 apart-under a b h = omega arith
 
-pub apart-none : (a b : ℕ) → apart a b ≡ 0 → a ≡ b
-apart-none a b h = omega arith
-
 module _ {g : Graph} {bound : List ℤ} {x : List ℕ} {price : ℕ → ℕ} (good : Good g bound x price) (e : ℕ) (inside : e < g .edges) where
   pub leads : Out g x e ⊎ Back g x e
   leads = arc g x e (good .marks e)
@@ -76,13 +72,6 @@ module _ {g : Graph} {bound : List ℤ} {x : List ℕ} {price : ℕ → ℕ} (go
 
   pub slack-back : Back g x e → slack g price e + cost g price e ≡ value g e
   slack-back o = apart-under _ _ (good .chosen e inside (o .mark))
-
--- An edge leads to a vertex, whatever its mark.
-pub head-in : {g : Graph} → Solvable g → (x : List ℕ) (e : ℕ) → e < g .edges → head g x e < vertices g
-head-in {g} net x e l = ⊎-elim
-    (λ z. omega (arith, if-same (secondEnd g e) (firstEnd g e) z, second-to net e l))
-    (λ s. omega (arith, if-other {j = markAt x e} {k = 0} (secondEnd g e) (firstEnd g e) (λ z. omega (arith, z)), first-to net e l, rows-in net))
-    (eq-zero-or-pos (markAt x e))
 
 -- The function f′ is f, but for a at v.
 pub record Put (f f′ : ℕ → ℕ) (v a : ℕ) : Type 0 where

@@ -1,7 +1,10 @@
--- The laws of the tree: how edges lead, one more label, the edges noted, the dual step, and the end of a search.
+-- The laws of a search: what a passed graph gives, how edges lead, one more edge looked at, the next vertex settled, the prices moved, what the walk back
+-- leaves; and laws of the lists and of the index's places.
 pub mod Solvable
 pub mod Leading
-pub mod Label
-pub mod Notes
-pub mod Step
+pub mod Grow
+pub mod Settle
+pub mod Finish
 pub mod End
+pub mod Lists
+pub mod Places

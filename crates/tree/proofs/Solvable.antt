@@ -1,6 +1,6 @@
 -- What a graph that the solver's tests have passed gives, edge by edge.
 use Prim.Native.Nat.{ℕ, _+_, _*_, _≤_, _<_}
-use mathlib.Core.Path.{_≡_, refl, subst, sym}
+use mathlib.Core.Path.{_≡_, subst, sym}
 use mathlib.Core.List.{List}
 use native.Mathlib.Omega.{arith}
 use lib.IntN.{ℤ, pos, negsuc, _+ℤ_}
@@ -14,7 +14,6 @@ use Rattle.graph.specs.Graph.{Graph, vertices, verticesOf, columnVertex, column
 use Rattle.graph.specs.Passed.{Passed, MarksHold}
 use Rattle.graph.proofs.Passed.{weight-hold}
 use Rattle.tree.specs.Method.{level, value, Solvable, Good}
-use Rattle.tree.specs.Tree.{levels, Levelled}
 
 -- The row vertices are among the vertices, and come first in a bipartite graph.
 pub rows-among : (k : Kind) (rows columns : ℕ) → rows ≤ verticesOf k rows columns
@@ -71,12 +70,6 @@ module _ {g : Graph} (s : Solvable g) where
     pub value-most : value g e ≤ 3 * level
     value-most = value-in (s .passed) e l .1
 
--- What is kept throughout holds of the prices and of the marks.
-pub levelled : {g : Graph} {bound price : List ℤ} {x : List ℕ} → length price ≡ vertices g → Good g bound x (levels price) → Levelled (vertices g) price
-levelled long good = record { long = long; least = good .least; most = good .most }
-
-pub levelled-all : {n : ℕ} {price : List ℤ} → Levelled n price → Levelled (length price) price
-levelled-all p = record { long = refl; least = λ v l. p .least v (omega (arith, p .long)); most = λ v l. p .most v (omega (arith, p .long)) }
-
+-- What is kept throughout holds of the marks.
 pub marks-hold : {g : Graph} {bound : List ℤ} {x : List ℕ} {price : ℕ → ℕ} → Good g bound x price → MarksHold (g .edges) x
 marks-hold good = record { long = good .long; each = λ e l. good .marks e }

@@ -1,2 +1,4 @@
 pub mod Method
 pub mod Tree
+pub mod Front
+pub mod Lists

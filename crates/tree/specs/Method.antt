@@ -7,7 +7,7 @@ use mathlib.Core.List.{List}
 use lib.IntN.{ℤ, pos, _+ℤ_}
 use lib.ListN.{length}
 use Rattle.integers.specs.Integer.{up}
-use Rattle.integers.specs.Sum.{sum, is}
+use Rattle.integers.specs.Sum.{is}
 use Rattle.graph.specs.declared.Kind.the-variants.{Bipartite}
 use Rattle.graph.specs.Graph.{Graph, vertices, firstEnd, secondEnd, weightAt, boundAt}
 use Rattle.graph.specs.Subgraph.{markAt, degree}
@@ -44,9 +44,9 @@ pub record Good (g : Graph) (bound : List ℤ) (x : List ℕ) (price : ℕ → �
   pub chosen : (e : ℕ) → e < g .edges → markAt x e ≡ 1 → cost g price e ≤ value g e
   pub full : (v : ℕ) → g .rows ≤ v → v < vertices g → level < price v → degree g x v ≡ limit bound v
 
--- Each row vertex before t with a price above 0 is saturated.
-pub record Done (t : ℕ) (g : Graph) (bound : List ℤ) (x : List ℕ) (price : ℕ → ℕ) : Type 0 where
-  pub done : (v : ℕ) → v < t → level < price v → degree g x v ≡ limit bound v
+-- Vertex v is saturated, if its price is above 0.
+abbrev pub Saturated : Graph → List ℤ → List ℕ → (ℕ → ℕ) → ℕ → Type 0
+Saturated g bound x price v = level < price v → degree g x v ≡ limit bound v
 
 -- Edge e, marked k, reaches vertex v, its end by near, from a vertex of lower rank, its end by far. A vertex with no label has rank 0.
 pub record Link (g : Graph) (x : List ℕ) (near far : Graph → ℕ → ℕ) (rank : ℕ → ℕ) (k e v : ℕ) : Type 0 where
@@ -61,16 +61,6 @@ pub record Labels (g : Graph) (x : List ℕ) (label rank : ℕ → ℕ) (root k 
   pub of-row : (v : ℕ) → v < g .rows → v ≢ root → 0 < rank v → rank v ≤ k → Link g x firstEnd secondEnd rank 1 (label v) v
   pub of-column : (v : ℕ) → g .rows ≤ v → v < vertices g → 0 < rank v → rank v ≤ k → Link g x secondEnd firstEnd rank 0 (label v) v
 
--- The alternating tree from a root row vertex: count vertices are labelled, each by a tight edge, and each labelled column vertex is saturated.
-pub record Tree (g : Graph) (bound : List ℤ) (x : List ℕ) (price label rank : ℕ → ℕ) (root count : ℕ) : Type 0 where
-  pub root-row : root < g .rows
-  pub root-seen : 0 < rank root
-  pub under : (v : ℕ) → rank v ≤ count
-  pub labels : Labels g x label rank root count
-  pub tight : (v : ℕ) → v < vertices g → v ≢ root → 0 < rank v → cost g price (label v) ≡ value g (label v)
-  pub saturated : (v : ℕ) → g .rows ≤ v → v < vertices g → 0 < rank v → degree g x v ≡ limit bound v
-  pub tally : count + sum (vertices g) (λ v. is (rank v) 0) ≡ vertices g
-
 -- The subgraph y is x after the walk back from a labelled vertex v to the root. From a row vertex, v loses an edge and the root gains one; from a
 -- column vertex, both gain one. A mark that changed is that of a labelled vertex's label.
 pub record Augmented (g : Graph) (label rank : ℕ → ℕ) (root v : ℕ) (x y : List ℕ) : Type 0 where
@@ -80,9 +70,9 @@ pub record Augmented (g : Graph) (label rank : ℕ → ℕ) (root v : ℕ) (x y 
   pub marks : ((e : ℕ) → markAt x e ≤ 1) → (e : ℕ) → markAt y e ≤ 1
   pub kept : (e : ℕ) → ((h : ℕ) → h < vertices g → h ≢ root → 0 < rank h → label h ≡ e → ⊥) → markAt y e ≡ markAt x e
 
--- What a search from a row vertex leaves: all is kept, and the root has one edge more, or the price 0.
+-- What a search from a row vertex leaves: all is kept, other row vertices that were saturated are, and the root has one edge more, or the price 0.
 pub record Sought (g : Graph) (bound : List ℤ) (root : ℕ) (x : List ℕ) (price : ℕ → ℕ) (y : List ℕ) (price′ : ℕ → ℕ) : Type 0 where
   pub good : Good g bound y price′
-  pub done : Done root g bound x price → Done root g bound y price′
+  pub done : (v : ℕ) → v < g .rows → v ≢ root → Saturated g bound x price v → Saturated g bound y price′ v
   pub step : (degree g y root ≡ degree g x root + 1) ⊎ ((price′ root ≡ level) × (degree g y root ≡ degree g x root))
   pub falls : price′ root ≤ price root

@@ -2,6 +2,7 @@
 
 use reference::graph::MOST_PRICE;
 use reference::{build_index, half_points, index_length, Graph, Kind, Random};
+use std::ops::RangeInclusive;
 
 /// The numbers of a graph, of which something may be wrong.
 #[derive(Clone, Debug)]
@@ -62,6 +63,22 @@ impl Lent {
             column: pairs.iter().map(|p| p.1).collect(),
             weight: pairs.iter().map(|_| weight(random)).collect(),
         }
+    }
+
+    /// A right graph of a kind with these sizes and at most this many edges, in any order, with weights from this range.
+    pub fn weighted(
+        random: &mut Random,
+        kind: Kind,
+        rows: u32,
+        columns: u32,
+        most: usize,
+        weights: &RangeInclusive<i32>,
+    ) -> Lent {
+        let mut lent = Lent::right(random, kind, rows, columns, most);
+        for weight in &mut lent.weight {
+            *weight = random.between(*weights.start(), *weights.end());
+        }
+        lent
     }
 
     /// A graph of a kind with as many vertices as it may have and this many edges: right, unless these are too many.
@@ -217,6 +234,15 @@ impl Lent {
         self.column.pop();
         self.weight.pop();
         self.edges = self.row.len() as u32;
+    }
+
+    /// The size line and a line for each edge, as a text has them after its header.
+    pub fn lines(&self) -> String {
+        let mut lines = format!("{} {} {}\n", self.rows, self.columns, self.edges);
+        for ((row, column), weight) in self.row.iter().zip(&self.column).zip(&self.weight) {
+            lines += &format!("{row} {column} {weight}\n");
+        }
+        lines
     }
 
     /// The graph as it is lent.

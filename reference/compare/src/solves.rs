@@ -4,6 +4,7 @@ use crate::graphs::{feasible, length, Lent};
 use crate::guard::Guarded;
 use crate::indexes::change;
 use crate::measures::Measuring;
+use crate::problems::families;
 use crate::proved;
 use crate::tally::{Seen, Tally};
 use reference::brute::weight_of;
@@ -181,7 +182,16 @@ fn chains(random: &mut Random, tally: &mut Tally) {
     }
 }
 
-/// Compares the solver on `count` small graphs, 200 large ones and 504 chains.
+/// Some graphs of each family that the solvers' speed is measured on: other sizes, many ties, and bounds that are all 1 or all 64.
+fn of_families(random: &mut Random, tally: &mut Tally) {
+    for (seed, family) in families().iter().enumerate() {
+        for problem in family.problems(seed as u64, 20) {
+            compare_one(random, &problem.graph, &problem.bound, tally, false);
+        }
+    }
+}
+
+/// Compares the solver on `count` small graphs, 200 large ones, 504 chains and 480 graphs of the families.
 pub fn compare(seed: u64, count: u64) -> Vec<bool> {
     let mut random = Random::new(seed);
     let mut smalls = Tally::new("solver, small graphs");
@@ -196,11 +206,14 @@ pub fn compare(seed: u64, count: u64) -> Vec<bool> {
     for _ in 0..4 {
         chains(&mut random, &mut chained);
     }
+    let mut measured = Tally::new("solver, families");
+    of_families(&mut random, &mut measured);
     let mut demanded = vec![Seen::Result, Seen::Other(UNTESTED.into())];
     demanded.extend([4, 6, 7, 8, 9, 10, 16, 18].map(Seen::Refusal));
     vec![
         smalls.report_all(count, &demanded),
         larges.report(200, &[18]),
         chained.report(504, &[18]),
+        measured.report(480, &[18]),
     ]
 }

@@ -49,7 +49,7 @@ fn the_manual_shows_the_walk_of_the_code() {
     let from = manual.find("    let mut vertex = v;\n").unwrap();
     let shown = &manual[from..];
     let shown = &shown[..shown.find("\n\n").unwrap()];
-    assert_eq!(shown.lines().count(), 7);
+    assert_eq!(shown.lines().count(), 11);
     assert!(text("crates/augment/src/lib.rt").contains(&format!("{{\n{shown}\n}}\n")));
 }
 

@@ -5,20 +5,16 @@ use Rattle.dual_step.proofs.moved.Statement.{statement}
 use Rattle.dual_step.proofs.moved.Tie as tie
 
 sub-result : tie.Need-sub-result
-sub-result c =
-    let pre = c .before .before .pre in
-    pre .0 (c .if2 .taken) (omega (arith, c .before .if1 .left))
+sub-result c = c .before .pre .0 (c .if1 .taken)
+
+add-result : tie.Need-add-result
+add-result c = search needs
+
+returns : tie.Need-returns
+returns c = record { row = λ l. omega (arith, c .before .pre .0 l); column = λ l. omega arith }
 
 returns-2 : tie.Need-returns-2
-returns-2 c =
-    let pre = c .before .before .pre in (
-      record {
-        row = λ l s. omega (arith, pre .0 l s);
-        column = λ l. absurd (omega (arith, c .if2 .taken));
-        other = λ z. absurd (omega (arith, c .before .if1 .left));
-      },
-      omega (arith, pre .1),
-    )
+returns-2 c = search needs
 
 pub moved-spec : {M : Type 1} → statement M
-moved-spec = tie.close (tie.spec (λ c. search needs) sub-result returns-2 (λ c. search needs) (λ c. search needs))
+moved-spec = tie.close (tie.spec sub-result add-result returns returns-2)

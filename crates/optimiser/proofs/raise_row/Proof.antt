@@ -9,64 +9,72 @@ use borrow.Author.Needs.{needs}
 use Rattle.optimiser.proofs.raise_row.Statement.{statement}
 use Rattle.optimiser.proofs.raise_row.Tie as tie
 
+sub-v : tie.Need-sub-v
+sub-v c = let start = c .before .before .before .before in omega (arith, start .pre .0 .sound .ends (start .args .e) (start .pre .1 .0) .row .least)
+
+cast-v : tie.Need-cast-v
+cast-v c = omega (arith, c .shared-slice-known3 .given (c .before .before .before .before .args .e))
+
 value-at-requires : tie.Need-value-at-requires
 value-at-requires c κs =
-    let start = c .before .before .before in
-    let pre = start .pre in (omega (arith, pre .0 .weightLong, pre .1 .0), weight-within (pre .0) (start .args .e) (pre .1 .0))
+    let start = c .before .before .before .before in
+    let pre = start .pre in
+    (omega (arith, pre .0 .weightLong, pre .1 .0), weight-within (pre .0) (start .args .e) (pre .1 .0))
 
 sub-k : tie.Need-sub-k
 sub-k c =
-    let start = c .before .before .before .before in
-    let pre = start .pre in
-    let range = value-in (pre .0) (start .args .e) (pre .1 .0) in
-    omega (arith, c .value-at .ensures, range .0)
-
-natural-at-requires : tie.Need-natural-at-requires
-natural-at-requires c κs =
-    let ends-at = c .before .before .ends-at in
     let start = c .before .before .before .before .before in
     let pre = start .pre in
-    let inside = pre .0 .sound .ends (start .args .e) (pre .1 .0) .first in
-    omega (arith, ends-at .ensures .0, inside, pre .1 .1)
+    omega (arith, c .value-at .ensures, value-in (pre .0) (start .args .e) (pre .1 .0) .0)
 
-set-level-requires : tie.Need-set-level-requires
-set-level-requires c κs =
-    let at-value-at = c .before .before .before .before in
-    let at-ends-at = at-value-at .before in
-    let start = at-ends-at .before .before .before in
+mul-if1 : tie.Need-mul-if1
+mul-if1 c =
+    let start = c .before .before .before .before .before in
     let pre = start .pre in
-    let range = value-in (pre .0) (start .args .e) (pre .1 .0) in
-    let inside = pre .0 .sound .ends (start .args .e) (pre .1 .0) .first in
-    (omega (arith, at-ends-at .ends-at .ensures .0, inside, pre .1 .1), omega (arith, at-value-at .value-at .ensures, range .1))
+    omega (arith, pre .0 .sound .ends (start .args .e) (pre .1 .0) .first, pre .0 .sound .sizes .order)
+
+slice-read-if1 : tie.Need-slice-read-if1
+slice-read-if1 c =
+    let start = c .before .before .before .before .before .before in
+    let pre = start .pre in
+    omega (arith, pre .0 .sound .ends (start .args .e) (pre .1 .0) .first, pre .1 .1)
+
+mul-price : tie.Need-mul-price
+mul-price c =
+    let start = c .before .before .before .before .before .before .before in
+    let pre = start .pre in
+    omega (arith, pre .0 .sound .ends (start .args .e) (pre .1 .0) .first, pre .0 .sound .sizes .order)
+
+slice-write-price : tie.Need-slice-write-price
+slice-write-price c =
+    let start = c .before .before .before .before .before .before .before in
+    let pre = start .pre in
+    omega (arith, pre .0 .sound .ends (start .args .e) (pre .1 .0) .first, pre .1 .1)
 
 returns : tie.Need-returns
 returns c =
-    let at-if1 = c .before .before .before in
-    let at-natural-at = at-if1 .before in
-    let at-value-at = at-natural-at .before .before in
-    let at-ends-at = at-value-at .before in
-    let start = at-ends-at .before .before .before in
+    let start = c .before .before .before .before .before .before .before in
     let pre = start .pre in
     let inside = pre .0 .sound .ends (start .args .e) (pre .1 .0) .first in
-    raise-set (at-ends-at .ends-at .ensures .0) (ap (λ n. n - level) (at-value-at .value-at .ensures)) (at-natural-at .natural-at .ensures)
-    (omega (arith, at-ends-at .ends-at .ensures .0, inside, pre .1 .1)) (at-if1 .if1 .taken) (c .before .set-level .ensures)
+    raise-set (start .args .price .now) _ (ap (λ n. n - level) (c .before .before .value-at .ensures)) (omega (arith, inside, pre .1 .1)) (c .if1 .taken)
 
 returns-2 : tie.Need-returns-2
-returns-2 c =
-    let at-value-at = c .before .before .before in
-    let ends-at = at-value-at .before .ends-at in
-    raise-kept (ends-at .ensures .0) (ap (λ n. n - level) (at-value-at .value-at .ensures)) (c .before .natural-at .ensures) (omega (arith, c .if1 .left))
+returns-2 c = raise-kept (ap (λ n. n - level) (c .before .before .value-at .ensures)) (c .if1 .left)
 
 pub raise-row-spec : {M : Type 1} → statement M
 raise-row-spec =
     tie.close
     (tie.spec
-    (λ c κs. search needs)
+    (λ c. search needs)
+    (λ c. search needs)
+    sub-v
+    cast-v
     value-at-requires
     sub-k
-    natural-at-requires
-    set-level-requires
+    mul-if1
+    slice-read-if1
+    mul-price
+    slice-write-price
     (λ c. search needs)
     returns
-    (λ c. search needs)
     returns-2)

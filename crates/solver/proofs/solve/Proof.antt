@@ -1,5 +1,7 @@
 -- `solver::solve` meets its contract: after a refusal all is 0, and what is accepted can be given to the method.
 use mathlib.Core.Path.{sym, ap, _∙_}
+use native.Mathlib.Omega.{arith}
+use lib.IntN.{pos}
 use lib.ListN.{length, replicate}
 use Rattle.graph.specs.Refusal.{told}
 use Rattle.graph.specs.Graph.{Graph, graphOf}
@@ -35,21 +37,27 @@ returns c =
 
 optimise-requires : tie.Need-optimise-requires
 optimise-requires c κs =
-    let at-clear-integers2 = c .before .before .before .before .before .before .before .before .before in
+    let at-enum-told = c .before .before .before .before in
+    let at-clear-integers3 = at-enum-told .before .before .before in
+    let at-clear-integers2 = at-clear-integers3 .before .before .before in
     let at-clear-integers = at-clear-integers2 .before .before .before in
     let at-clear-bytes = at-clear-integers .before .before .before .before in
     let at-tested = at-clear-bytes .before .before in
     let start = at-tested .before .before .before .before .before in
     let g = graph start in
     let index = start .args .index .now in
-    let P = solve-passed g (start .args .bound .now) index (lent start) (sym (at-tested .tested .ensures) ∙ ap checkSays (c .before .before .before .enum-told .given .1)) in (
+    let P = solve-passed g (start .args .bound .now) index (lent start) (sym (at-tested .tested .ensures) ∙ ap checkSays (at-enum-told .enum-told .given .1)) in (
       record { bipartite = P .bipartite; passed = P .passed },
       (
         index-given g index (P .passed .sound) (P .indexLong) (P .indexPasses),
         (
           P .bounded,
           (
-            (at-clear-integers .clear-integers .kept .0 ∙ P .vertexLong, at-clear-integers2 .clear-integers2 .kept .0 ∙ P .edgeLong),
+            (
+              at-clear-integers .clear-integers .kept .0 ∙ P .vertexLong,
+              at-clear-integers2 .clear-integers2 .kept .0 ∙ P .edgeLong,
+              omega (arith, at-clear-integers3 .clear-integers3 .kept .0, P .workspaceLong, P .passed .sound .sizes .few),
+            ),
             at-clear-bytes .clear-bytes .ensures ∙ ap (λ n. replicate n 0) (P .chosenLong),
           ),
         ),
@@ -58,8 +66,9 @@ optimise-requires c κs =
 
 returns-2 : tie.Need-returns-2
 returns-2 c =
-    let at-optimise = c .before .before .before .before in
-    let at-enum-told = at-optimise .before .before .before .before in
+    let at-clear-integers4 = c .before in
+    let at-optimise = at-clear-integers4 .before .before .before .before .before .before .before in
+    let at-enum-told = at-optimise .before .before .before .before .before in
     let at-clear-integers3 = at-enum-told .before .before .before in
     let at-clear-integers2 = at-clear-integers3 .before .before .before in
     let at-clear-integers = at-clear-integers2 .before .before .before in
@@ -68,13 +77,14 @@ returns-2 c =
     let start = at-tested .before .before .before .before .before in
     let says = sym (at-tested .tested .ensures) ∙ ap checkSays (at-enum-told .enum-told .given .1) in
     let optimise = at-optimise .optimise in
-    let kept = optimise .kept .1 .1 .1 .1 .1 .1 in (
+    let kept = optimise .kept .1 .1 .1 .1 .1 .1 in
+    let workspace = kept .1 .1 .1 .0 ∙ at-clear-integers3 .clear-integers3 .kept .0 in (
       ap told (sym says),
       left-solved (start .args .index .now) (lent start) says (optimise .ensures)
           (kept .0 ∙ at-clear-bytes .clear-bytes .kept .0)
           (kept .1 .0 ∙ at-clear-integers .clear-integers .kept .0)
           (kept .1 .1 .0 ∙ at-clear-integers2 .clear-integers2 .kept .0)
-          (at-clear-integers3 .clear-integers3 .ensures),
+          (at-clear-integers4 .clear-integers4 .ensures ∙ ap (λ n. replicate n (pos 0)) workspace),
     )
 
 pub solve-spec : {M : Type 1} → statement M
@@ -94,6 +104,7 @@ solve-spec =
     returns
     (λ c. search needs)
     optimise-requires
+    (λ c κs. search needs)
     (λ c. search needs)
     (λ c. search needs)
     (λ c. search needs)

@@ -3,25 +3,18 @@
 use compare::graphs::Lent;
 use compare::indexes::{Building, Testing};
 use compare::measures::Measuring;
+use compare::problems::{Buffers, Family, Problem, Solving, WHOLE_RANGE};
 use compare::proved;
 use compare::readings::{ReadingNumbers, ReadingSubgraph};
 use compare::tidies::Tidying;
+use compare::timing::{self, microseconds};
 use reference::{Kind, Random, What};
 use std::hint::black_box;
-use std::time::Instant;
 
 /// The median time of a call in microseconds, over the inputs.
 fn median<T>(inputs: &[T], mut call: impl FnMut(&T)) -> f64 {
-    let mut times: Vec<f64> = inputs
-        .iter()
-        .map(|input| {
-            let start = Instant::now();
-            call(input);
-            start.elapsed().as_secs_f64() * 1e6
-        })
-        .collect();
-    times.sort_by(f64::total_cmp);
-    times[times.len() / 2]
+    let times = inputs.iter().map(|input| microseconds(|| call(input)));
+    timing::median(times)
 }
 
 fn show(name: &str, ours: f64, theirs: f64) {
@@ -31,31 +24,14 @@ fn show(name: &str, ours: f64, theirs: f64) {
     );
 }
 
-/// A graph with weights from their whole range.
-fn graph(random: &mut Random, kind: Kind, side: u32, edges: usize) -> Lent {
-    let mut lent = Lent::right(random, kind, side, side, edges);
-    for weight in &mut lent.weight {
-        *weight = random.between(-1_000_000, 1_000_000);
-    }
-    lent
-}
-
-/// A bipartite graph with weights from their whole range, and bounds 1 to 4.
-fn sheet(random: &mut Random, side: u32, edges: usize) -> (Lent, Vec<i32>) {
-    let lent = graph(random, Kind::Bipartite, side, edges);
-    let bound = (0..lent.vertices()).map(|_| random.between(1, 4)).collect();
-    (lent, bound)
+/// Bipartite graphs, 64 by 64, with weights from their whole range, and bounds 1 to 4.
+fn problems(seed: u64, edges: usize) -> Vec<Problem> {
+    Family::new(64, 64, edges).problems(seed, 101)
 }
 
 fn text(lent: &Lent) -> Vec<u8> {
-    let mut text = format!(
-        "%%MatrixMarket matrix coordinate integer general\n{} {} {}\n",
-        lent.rows, lent.columns, lent.edges
-    );
-    for e in 0..lent.row.len() {
-        text += &format!("{} {} {}\n", lent.row[e], lent.column[e], lent.weight[e]);
-    }
-    text.into_bytes()
+    let header = "%%MatrixMarket matrix coordinate integer general";
+    format!("{header}\n{}", lent.lines()).into_bytes()
 }
 
 fn number_text(numbers: &[i32]) -> Vec<u8> {
@@ -80,10 +56,8 @@ fn subgraph_text(lent: &Lent) -> Vec<u8> {
 
 fn graph_readers() {
     for edges in [128, 256, 512, 1024] {
-        let mut random = Random::new(1);
-        let texts: Vec<_> = (0..101)
-            .map(|_| text(&sheet(&mut random, 64, edges).0))
-            .collect();
+        let problems = problems(1, edges).into_iter();
+        let texts: Vec<_> = problems.map(|problem| text(&problem.graph)).collect();
         let mut out = (vec![0u32; 1024], vec![0u32; 1024], vec![0i32; 1024]);
         let ours = median(&texts, |t| {
             black_box(proved::read_graph(t, &mut out.0, &mut out.1, &mut out.2)).unwrap();
@@ -124,9 +98,8 @@ fn number_readers() {
 
 fn subgraph_readers() {
     for edges in [256, 1024] {
-        let mut random = Random::new(6);
-        let sheets = (0..101).map(|_| sheet(&mut random, 64, edges).0);
-        let inputs: Vec<_> = sheets.map(|lent| (subgraph_text(&lent), lent)).collect();
+        let graphs = problems(6, edges).into_iter().map(|problem| problem.graph);
+        let inputs: Vec<_> = graphs.map(|lent| (subgraph_text(&lent), lent)).collect();
         let mut out = vec![0u8; edges];
         let reference: ReadingSubgraph =
             |text, g, out| reference::read_subgraph(text, g, out).map(|_| ());
@@ -146,8 +119,7 @@ fn subgraph_readers() {
 
 fn measures() {
     for (edges, sets) in [(256, 16), (1024, 0), (1024, 4), (1024, 16)] {
-        let mut random = Random::new(2);
-        let inputs: Vec<_> = (0..101).map(|_| sheet(&mut random, 64, edges)).collect();
+        let inputs = problems(2, edges);
         let vertex = vec![2_000_000; 128];
         let edge = vec![0; 1024];
         let price = vec![2; sets];
@@ -158,10 +130,10 @@ fn measures() {
         }
         let count = sets as u32;
         let [ours, theirs] = [proved::measure, reference::measure as Measuring].map(|measure| {
-            median(&inputs, |(lent, bound)| {
-                let mut bound = bound.clone();
+            median(&inputs, |problem| {
+                let mut bound = problem.bound.clone();
                 bound[0] = 1;
-                let (graph, m) = (lent.lend(), lent.row.len());
+                let (graph, m) = (problem.graph.lend(), edges);
                 let chosen = vec![0u8; m];
                 let (vertices, edges) = (&set_vertices, &set_edges);
                 let edge = &edge[..m];
@@ -188,8 +160,8 @@ fn tidies() {
         (Kind::General, 128, 1024),
     ] {
         let mut random = Random::new(7);
-        let graphs = (0..101).map(|_| graph(&mut random, kind, side, edges));
-        let inputs: Vec<_> = graphs.collect();
+        let mut graph = || Lent::weighted(&mut random, kind, side, side, edges, &WHOLE_RANGE);
+        let inputs: Vec<_> = (0..101).map(|_| graph()).collect();
         let mut out = vec![0u8; 32_768];
         let [ours, theirs] = [proved::tidy_graph, reference::tidy_graph as Tidying].map(|tidy| {
             median(&inputs, |lent| {
@@ -208,22 +180,20 @@ fn tidies() {
 
 fn indexes() {
     for edges in [256, 512, 1024] {
-        let mut random = Random::new(4);
-        let sheets = (0..101).map(|_| sheet(&mut random, 64, edges).0);
-        let inputs: Vec<_> = sheets.map(|lent| (lent.index(), lent)).collect();
+        let inputs = problems(4, edges);
         let mut out = vec![0u32; 2177];
         let [ours, theirs] =
             [proved::build_index, reference::build_index as Building].map(|build| {
-                median(&inputs, |(index, lent)| {
-                    let out = &mut out[..index.len()];
+                median(&inputs, |problem| {
+                    let out = &mut out[..problem.index.len()];
                     out.fill(0);
-                    black_box(build(&lent.lend(), out)).unwrap();
+                    black_box(build(&problem.graph.lend(), out)).unwrap();
                 })
             });
         show(&format!("build the index, {edges} edges"), ours, theirs);
         let [ours, theirs] = [proved::test_index, reference::test_index as Testing].map(|test| {
-            median(&inputs, |(index, lent)| {
-                black_box(test(&lent.lend(), index)).unwrap();
+            median(&inputs, |problem| {
+                black_box(test(&problem.graph.lend(), &problem.index)).unwrap();
             })
         });
         show(&format!("test the index, {edges} edges"), ours, theirs);
@@ -243,40 +213,16 @@ fn solvers() {
         (64, 512),
         (64, 1024),
     ] {
-        let mut random = Random::new(3);
-        let sheets = (0..100).map(|_| sheet(&mut random, side, edges));
-        let inputs: Vec<_> = sheets
-            .map(|(lent, bound)| (lent.index(), lent, bound))
-            .collect();
-        let mut out = (
-            vec![0u8; 1024],
-            vec![0i32; 128],
-            vec![0i32; 1024],
-            vec![0i32; 4096],
-        );
-        let mut solve = |proved: bool| {
-            median(&inputs, |(index, lent, bound)| {
-                let (n, m) = (lent.vertices(), lent.row.len());
-                out.0.fill(0);
-                out.1.fill(0);
-                out.2.fill(0);
-                out.3.fill(0);
-                let (chosen, vertex, edge) = (&mut out.0[..m], &mut out.1[..n], &mut out.2[..m]);
-                let call = if proved {
-                    proved::solve
-                } else {
-                    reference::solve
-                };
-                let g = lent.lend();
-                black_box(call(&g, bound, index, chosen, vertex, edge, &mut out.3)).unwrap();
+        let family = Family::new(side, side, edges);
+        let inputs = family.problems(3, 100);
+        let mut buffers = Buffers::default();
+        let [ours, theirs] = [proved::solve, reference::solve as Solving].map(|solve| {
+            median(&inputs, |problem| {
+                buffers.clear();
+                buffers.solve(solve, problem);
             })
-        };
-        let (ours, theirs) = (solve(true), solve(false));
-        show(
-            &format!("solve, {side} by {side}, {edges} edges, bounds 1 to 4"),
-            ours,
-            theirs,
-        );
+        });
+        show(&format!("solve, {family}, bounds 1 to 4"), ours, theirs);
     }
 }
 

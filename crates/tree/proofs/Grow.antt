@@ -1,0 +1,324 @@
+-- One more edge looked at keeps what a search keeps: nothing changes, or its head is reached, for the first time or at a lesser distance.
+use Prim.Native.Nat.{ℕ, _+_, _-_, _≤_, _<_}
+use mathlib.Core.Path.{_≡_, refl, sym, ap, _∙_, subst}
+use mathlib.Core.Logic.{_≢_, _⊎_, inl, inr, ⊎-elim}
+use mathlib.Core.Bool.{cond}
+use mathlib.Core.List.{List}
+use native.Mathlib.Omega.{arith}
+use native.Mathlib.Decide.{ℕ-discrete}
+use lib.Dec.{eqb}
+use Rattle.integers.specs.Sum.{sum, is}
+use Rattle.integers.proofs.Sum.{is-other, sum-change, sum-const}
+use Rattle.graph.specs.Graph.{Graph, vertices}
+use Rattle.tree.specs.Method.{level}
+use Rattle.tree.specs.Tree.{tail, head, slack}
+use Rattle.tree.specs.Front.{far, Listed, Settled, Reach, Distances, AtRow, AtColumn, Bounded, State, Looked}
+use Rattle.tree.proofs.Leading.{lt-or-ge, if-same, if-other, Put}
+
+-- The function f, but for a at v.
+abbrev pub but : (ℕ → ℕ) → ℕ → ℕ → ℕ → ℕ
+but f v a w = cond (eqb w v) a (f w)
+
+pub but-put : (f : ℕ → ℕ) (v a : ℕ) → Put f (but f v a) v a
+but-put f v a = record { at = if-same {j = v} a (f v) refl; other = λ w n. if-other {j = w} a (f w) n }
+
+-- The list with vertex w among the open ones: where it was, or after the others.
+pub record Relisted (n : ℕ) (spot : ℕ → ℕ) (count w : ℕ) (order′ : ℕ → ℕ) (reached′ : ℕ) : Type 0 where
+  pub spot′ : ℕ → ℕ
+  pub list : Listed n order′ spot′ reached′
+  pub same : (v : ℕ) → v ≢ w → spot′ v ≡ spot v
+  pub later : count < spot′ w
+  pub high : count ≤ reached′
+
+-- It is listed already.
+pub relisted-old : {n count reached w : ℕ} {spot order order′ : ℕ → ℕ} → Listed n order spot reached → count ≤ reached → count < spot w →
+    ((i : ℕ) → i < reached → order′ i ≡ order i) → Relisted n spot count w order′ reached
+relisted-old {spot = spot} {order} {order′} l high after same = record {
+  spot′ = spot;
+  list = record {
+    inside = l .inside;
+    at = λ i b. ap spot (same i b) ∙ l .at i b;
+    back = λ v a. (l .back v a .0, same (spot v - 1) (omega (arith, l .back v a .0)) ∙ l .back v a .1);
+    tally = l .tally;
+  };
+  same = λ v n. refl;
+  later = after;
+  high = high;
+}
+
+-- It is not.
+module _ {n count reached w : ℕ} {spot order order′ : ℕ → ℕ} (l : Listed n order spot reached) (high : count ≤ reached) (none : spot w ≡ 0) (inside : w < n)
+    (put : Put order order′ reached w) where
+  abbrev more : ℕ → ℕ
+  more = but spot w (reached + 1)
+
+  p : Put spot more w (reached + 1)
+  p = but-put spot w (reached + 1)
+
+  at-more : (i : ℕ) → i < reached + 1 → more (order′ i) ≡ i + 1
+  at-more i b = elim (ℕ-discrete i reached) [
+    | yes e ↦ ap (λ i. more (order′ i)) e ∙ ap more (put .at) ∙ p .at ∙ ap (λ i. i + 1) (sym e)
+    | no e ↦
+        let c : i < reached = omega (arith, e) in
+        ap more (put .other i e) ∙ p .other (order i) (λ h. omega (arith, l .at i c, ap spot h, none)) ∙ l .at i c
+  ]
+
+  back-more : (v : ℕ) → 0 < more v → (more v ≤ reached + 1) × (order′ (more v - 1) ≡ v)
+  back-more v a = elim (ℕ-discrete v w) [
+    | yes e ↦
+        let k : more v ≡ reached + 1 = ap more e ∙ p .at in
+        let i : more v - 1 ≡ reached = omega (arith, k) in
+        (omega (arith, k), ap order′ i ∙ put .at ∙ sym e)
+    | no e ↦
+        let k = p .other v e in
+        let b = l .back v (omega (arith, k)) in
+        (omega (arith, k, b .0), ap (λ i. order′ (i - 1)) k ∙ put .other (spot v - 1) (λ h. omega (arith, h, b .0, k)) ∙ b .1)
+  ]
+
+  pub relisted-new : Relisted n spot count w order′ (reached + 1)
+  relisted-new = record {
+    spot′ = more;
+    list = record {
+      inside = λ v a. elim (ℕ-discrete v w) [ yes e ↦ omega (arith, e, inside) | no e ↦ l .inside v (omega (arith, p .other v e)) ];
+      at = at-more;
+      back = back-more;
+      tally = omega (
+        arith,
+        l .tally,
+        sum-change n w (λ v. is (more v) 0) (λ v. is (spot v) 0) inside (λ v b e. ap (λ k. is k 0) (p .other v e)),
+        ap (λ k. is k 0) none,
+        ap (λ k. is k 0) (p .at),
+        is-other (reached + 1) 0 (λ e. omega (arith, e)),
+      );
+    };
+    same = p .other;
+    later = omega (arith, p .at);
+    high = omega arith;
+  }
+
+-- The root alone is reached, and settled.
+module _ (root : ℕ) where
+  abbrev alone : ℕ → ℕ
+  alone = but (λ v. 0) root 1
+
+  only : Put (λ v. 0) alone root 1
+  only = but-put (λ v. 0) root 1
+
+  the-root : (v : ℕ) → 0 < alone v → v ≡ root
+  the-root v a = elim (ℕ-discrete v root) [ yes e ↦ e | no n ↦ absurd (omega (arith, only .other v n)) ]
+
+  settled : Settled alone 1 root
+  settled = record { seen = omega (arith, only .at); early = omega (arith, only .at) }
+
+-- The start.
+pub start : {g : Graph} {x : List ℕ} {price room dist label order : ℕ → ℕ} {root top : ℕ} → root < g .rows → g .rows ≤ vertices g →
+    dist root ≡ 0 → ((v : ℕ) → v < vertices g → v ≢ root → dist v ≡ far) → order 0 ≡ root → price root ≡ top + level → top ≤ level
+    → State g x price room dist label order root 1 1 0 top root root
+start {g} {x} {price} {room} {dist} {label} {order} {root} {top} low rows-in at other first price-is small = record {
+  spot = alone root;
+  list = record {
+    inside = λ v a. omega (arith, the-root root v a);
+    at = λ i l.
+        let z : i ≡ 0 = omega arith in
+        ap (λ i. alone root (order i)) z ∙ ap (alone root) first ∙ only root .at ∙ ap (λ i. i + 1) (sym z);
+    back = λ v a.
+        let k : alone root v ≡ 1 = ap (alone root) (the-root root v a) ∙ only root .at in
+        (omega (arith, k), ap (λ i. order (i - 1)) k ∙ first ∙ sym (the-root root v a));
+    tally = omega (
+      arith,
+      sum-change (vertices g) root (λ v. is (alone root v) 0) (λ v. 1) (omega arith) (λ v l n. ap (λ k. is k 0) (only root .other v n)),
+      sum-const (vertices g) 1,
+      ap (λ k. is k 0) (only root .at),
+      is-other 1 0 (λ e. omega (arith, e)),
+    );
+  };
+  high = omega arith;
+  dists = record {
+    none = λ v l z. other v l (λ e. omega (arith, ap (alone root) e, only root .at));
+    some = λ v a. omega (arith, ap dist (the-root root v a), at);
+    low = λ v a. omega (arith, ap dist (the-root root v (a .seen)), at);
+    high = λ v a. omega arith;
+    free = λ v c a k. absurd (omega (arith, the-root root v a));
+    reach = λ v n a. absurd (n (the-root root v a));
+    root-first = settled root;
+  };
+  top = record {
+    least = omega arith;
+    small = small;
+    low = λ v l a. omega (arith, ap dist (the-root root v (a .seen)), ap price (the-root root v (a .seen)), at, price-is);
+    ends = inl (record { row = low; settled = settled root; sum = omega (arith, at, price-is) });
+  };
+  newest = only root .at;
+  here = at;
+  older = λ q l a b. absurd (omega (arith, a .seen));
+}
+
+module _ {g : Graph} {x : List ℕ} {price room dist label order : ℕ → ℕ} {root count reached d most end u : ℕ}
+    (s : State g x price room dist label order root count reached d most end u) where
+  some-settled : 0 < count
+  some-settled = omega (arith, s .dists .root-first .seen, s .dists .root-first .early)
+
+  pub last-settled : Settled (s .spot) count u
+  last-settled = record { seen = omega (arith, s .newest, some-settled); early = omega (arith, s .newest) }
+
+  pub last-in : u < vertices g
+  last-in = s .list .inside u (last-settled .seen)
+
+  pub not-more : reached ≤ vertices g
+  not-more = omega (arith, s .list .tally)
+
+  -- An entry of the list is a vertex, and the list has each once.
+  pub entry-in : (i : ℕ) → i < reached → order i < vertices g
+  entry-in i l = s .list .inside (order i) (omega (arith, s .list .at i l))
+
+  pub entry-once : (i j : ℕ) → i < reached → j < reached → order i ≡ order j → i ≡ j
+  entry-once i j a b e = omega (arith, s .list .at i a, s .list .at j b, ap (s .spot) e)
+
+  pub entry-settled : (i : ℕ) → i < count → Settled (s .spot) count (order i)
+  entry-settled i l =
+      let a = s .list .at i (omega (arith, s .high)) in
+      record { seen = omega (arith, a); early = omega (arith, a) }
+
+  -- A vertex that is reached and not settled stands among the open ones.
+  pub open-or-settled : (v : ℕ) → 0 < s .spot v → Settled (s .spot) count v ⊎ (count < s .spot v)
+  open-or-settled v a = ⊎-elim (λ l. inr l) (λ l. inl (record { seen = a; early = l })) (lt-or-ge count (s .spot v))
+
+  -- The edge leads from the vertex settled last to vertex w, at distance h.
+  module _ {e w h : ℕ} (inside : e < g .edges) (from : tail g x e ≡ u) (to : head g x e ≡ w) (sum : d + slack g price e ≡ h) where
+    -- It brings w no nearer, or no end nearer.
+    pub look-passed : (dist w ≤ h) ⊎ (most ≤ h) → Bounded g x price dist most e
+    look-passed = ⊎-elim (λ l. inl (omega (arith, ap dist from, ap dist to, s .here, sum))) (λ l. inr (omega (arith, ap dist from, s .here, sum)))
+
+    -- It brings w nearer.
+    module _ {dist′ label′ order′ : ℕ → ℕ} {reached′ most′ : ℕ} (nearer : h < dist w) (below : h < most) (dp : Put dist dist′ w h)
+        (lp : Put label label′ w e) (r : Relisted (vertices g) (s .spot) count w order′ reached′) (falls : most′ ≤ most) where
+      -- A settled vertex is another one, and stays as it is.
+      other : (v : ℕ) → Settled (s .spot) count v → v ≢ w
+      other v a i = omega (arith, s .dists .low v a, ap dist i, sum)
+
+      settled-same : (v : ℕ) → Settled (s .spot) count v → Settled (r .spot′) count v
+      settled-same v a = record { seen = omega (arith, r .same v (other v a), a .seen); early = omega (arith, r .same v (other v a), a .early) }
+
+      was-other : (v : ℕ) → Settled (r .spot′) count v → v ≢ w
+      was-other v a i = omega (arith, ap (r .spot′) i, r .later, a .early)
+
+      was-settled : (v : ℕ) → Settled (r .spot′) count v → Settled (s .spot) count v
+      was-settled v a = record { seen = omega (arith, r .same v (was-other v a), a .seen); early = omega (arith, r .same v (was-other v a), a .early) }
+
+      dist-same : (v : ℕ) → Settled (s .spot) count v → dist′ v ≡ dist v
+      dist-same v a = dp .other v (other v a)
+
+      dist-less : (v : ℕ) → dist′ v ≤ dist v
+      dist-less v = elim (ℕ-discrete v w) [ yes i ↦ omega (arith, ap dist′ i, dp .at, ap dist i, nearer) | no i ↦ omega (arith, dp .other v i) ]
+
+      -- What edges from settled vertices say stays.
+      pub bounded-same : (q : ℕ) → Settled (s .spot) count (tail g x q) → Bounded g x price dist most q → Bounded g x price dist′ most′ q
+      bounded-same q a = ⊎-elim (λ l. inl (omega (arith, dist-less (head g x q), dist-same (tail g x q) a))) (λ l. inr (omega (arith, dist-same (tail g x q) a, falls)))
+
+      pub bounded-here : Bounded g x price dist′ most′ e
+      bounded-here =
+          let a = last-settled in
+          inl (omega (arith, ap dist′ from, ap dist′ to, dp .at, dist-same u a, s .here, sum))
+
+      pub looked-same : {edge : ℕ → ℕ} {start k : ℕ} → Looked g x price dist most u edge start k → Looked g x price dist′ most′ u edge start k
+      looked-same {edge} l = record {
+        each = λ j a b i. bounded-same (edge j) (subst (λ v. Settled (s .spot) count v) (sym i) last-settled) (l .each j a b i);
+      }
+
+      reach-same : {q v k : ℕ} → v ≢ w → Reach g x price dist (s .spot) count q v k → Reach g x price dist′ (r .spot′) count q v k
+      reach-same {q} {v} n c = record {
+        inside = c .inside;
+        leads = c .leads;
+        from = settled-same (tail g x q) (c .from);
+        less = omega (arith, r .same (tail g x q) (other (tail g x q) (c .from)), r .same v n, c .less);
+        sum = omega (arith, dist-same (tail g x q) (c .from), c .sum);
+      }
+
+      reach-here : Reach g x price dist′ (r .spot′) count e w h
+      reach-here = record {
+        inside = inside;
+        leads = to;
+        from = subst (λ v. Settled (r .spot′) count v) (sym from) (settled-same u last-settled);
+        less = omega (arith, ap (r .spot′) from, settled-same u last-settled .early, r .later);
+        sum = omega (arith, ap dist′ from, dist-same u last-settled, s .here, sum);
+      }
+
+      some-old : (v : ℕ) → v ≢ w → 0 < r .spot′ v → 0 < s .spot v
+      some-old v n a = omega (arith, r .same v n)
+
+      module _ (open-end : g .rows ≤ w → 0 < room w → most′ ≡ h) where
+        dists′ : Distances g x price room dist′ label′ (r .spot′) root count d most′
+        dists′ = record {
+          none = λ v l z.
+              let n : v ≢ w = λ i. omega (arith, ap (r .spot′) i, r .later) in
+              dp .other v n ∙ s .dists .none v l (sym (r .same v n) ∙ z);
+          some = λ v a. elim (ℕ-discrete v w) [
+            | yes i ↦ omega (arith, ap dist′ i, dp .at, below, s .top .small)
+            | no n ↦ omega (arith, dp .other v n, s .dists .some v (some-old v n a))
+          ];
+          low = λ v a. omega (arith, dist-same v (was-settled v a), s .dists .low v (was-settled v a));
+          high = λ v a. elim (ℕ-discrete v w) [
+            | yes i ↦ omega (arith, ap dist′ i, dp .at, sum)
+            | no n ↦ omega (arith, dp .other v n, s .dists .high v (omega (arith, r .same v n)))
+          ];
+          free = λ v c a k. elim (ℕ-discrete v w) [
+            | yes i ↦ omega (arith, ap dist′ i, dp .at, open-end (omega (arith, i)) (omega (arith, ap room i)))
+            | no n ↦ omega (arith, dp .other v n, s .dists .free v c (some-old v n a) k, falls)
+          ];
+          reach = λ v n a. elim (ℕ-discrete v w) [
+            | yes i ↦
+                let k : label′ v ≡ e = ap label′ i ∙ lp .at in
+                let b : dist′ v ≡ h = ap dist′ i ∙ dp .at in
+                subst (λ q. Reach g x price dist′ (r .spot′) count q v (dist′ v)) (sym k)
+                (subst (λ z. Reach g x price dist′ (r .spot′) count e v z) (sym b) (subst (λ z. Reach g x price dist′ (r .spot′) count e z h) (sym i) reach-here))
+            | no m ↦
+                subst (λ q. Reach g x price dist′ (r .spot′) count q v (dist′ v)) (sym (lp .other v m))
+                (subst (λ z. Reach g x price dist′ (r .spot′) count (label v) v z) (sym (dp .other v m)) (reach-same m (s .dists .reach v n (some-old v m a))))
+          ];
+          root-first = settled-same root (s .dists .root-first);
+        }
+
+        grown : {end′ : ℕ} → d ≤ most′ → AtRow g price dist′ (r .spot′) count most′ end′ ⊎ AtColumn g room dist′ (r .spot′) most′ end′ →
+            State g x price room dist′ label′ order′ root count reached′ d most′ end′ u
+        grown least ends = record {
+          spot = r .spot′;
+          list = r .list;
+          high = r .high;
+          dists = dists′;
+          top = record {
+            least = least;
+            small = omega (arith, s .top .small, falls);
+            low = λ v l a. omega (arith, dist-same v (was-settled v a), s .top .low v l (was-settled v a), falls);
+            ends = ends;
+          };
+          newest = r .same u (other u last-settled) ∙ s .newest;
+          here = dist-same u last-settled ∙ s .here;
+          older = λ q l a b.
+              let c = was-settled (tail g x q) a in
+              bounded-same q c (s .older q l c (omega (arith, r .same (tail g x q) (was-other (tail g x q) a))));
+        }
+
+    -- Where w has no room, the nearest end stays.
+    module _ {dist′ label′ order′ : ℕ → ℕ} {reached′ : ℕ} (nearer : h < dist w) (below : h < most) (dp : Put dist dist′ w h) (lp : Put label label′ w e)
+        (r : Relisted (vertices g) (s .spot) count w order′ reached′) (full : g .rows ≤ w → room w ≡ 0) where
+      pub look-reaches : State g x price room dist′ label′ order′ root count reached′ d most end u
+      look-reaches = grown nearer below dp lp r (omega arith) (λ c k. absurd (omega (arith, full c))) (s .top .least) (ends-same (s .top .ends))
+        where
+          ends-same : AtRow g price dist (s .spot) count most end ⊎ AtColumn g room dist (s .spot) most end →
+              AtRow g price dist′ (r .spot′) count most end ⊎ AtColumn g room dist′ (r .spot′) most end
+          ends-same = ⊎-elim
+              (λ a. inl (record {
+                row = a .row;
+                settled = settled-same {most′ = most} nearer below dp lp r (omega arith) end (a .settled);
+                sum = omega (arith, dist-same {most′ = most} nearer below dp lp r (omega arith) end (a .settled), a .sum);
+              }))
+              (λ a.
+              let n : end ≢ w = λ i. omega (arith, i, full (omega (arith, i, a .column)), ap room i, a .roomy) in
+              inr (record { column = a .column; seen = omega (arith, r .same end n, a .seen); roomy = a .roomy; here = dp .other end n ∙ a .here }))
+
+    -- Where it has room, the path may end there.
+    module _ {dist′ label′ order′ : ℕ → ℕ} {reached′ : ℕ} (nearer : h < dist w) (below : h < most) (dp : Put dist dist′ w h) (lp : Put label label′ w e)
+        (r : Relisted (vertices g) (s .spot) count w order′ reached′) (column : g .rows ≤ w) (roomy : 0 < room w) where
+      pub look-ends : State g x price room dist′ label′ order′ root count reached′ d h w u
+      look-ends = grown nearer below dp lp r (omega arith) (λ c k. refl) (omega (arith, sum))
+          (inr (record { column = column; seen = omega (arith, r .later); roomy = roomy; here = dp .at }))
