@@ -1,12 +1,12 @@
 /* The calls from C, through the layer of jangoripu.h: draws up the plan of the season, marks it against the season's prices, and measures
- * the tank's plan against prices with a group; builds and tests the index of both sheets; and tidies the untidy sheet. Run in this folder;
- * what it writes is in calls.out. */
+ * the tank's plan against prices with a group; builds and tests the index of both sheets; tidies the untidy sheet; and takes a partner's
+ * crosses in, and out again. Run in this folder; what it writes is in calls.out. */
 #include "jangoripu.h"
 #include <stdio.h>
 #include <stdlib.h>
 
 static uint32_t row[JANGORIPU_MOST_EDGES], column[JANGORIPU_MOST_EDGES], listed[JANGORIPU_LONGEST_INDEX];
-static int32_t weight[JANGORIPU_MOST_EDGES], bound[JANGORIPU_MOST_VERTICES];
+static int32_t weight[JANGORIPU_MOST_EDGES], bound[JANGORIPU_ASSIGNMENT_BOUNDS];
 static uint8_t chosen[JANGORIPU_MOST_EDGES];
 
 /* A text, at most one byte longer than a text may be. */
@@ -117,9 +117,26 @@ static void untidy(void) {
     fwrite(out, 1, length, stdout);
 }
 
+/* Reads the partner's crosses as a sheet with limits of 1, writes them as they are written here, and tries it with another limit. */
+static void crosses(void) {
+    static uint8_t out[JANGORIPU_GRAPH_BYTES];
+    jangoripu_sheet s;
+    uint32_t refusal;
+    uint64_t place;
+    size_t length = load("dimacs/partner.asn");
+    expect(jangoripu_assignment_read(&s, text, length, row, column, weight, bound, &place), &place, "dimacs/partner.asn");
+    printf("%u dams, %u sires, %u pairs\n", (unsigned)s.rows, (unsigned)s.columns, (unsigned)s.edges);
+    expect(jangoripu_assignment_write(&s, out, &length, &place), &place, "input");
+    fwrite(out, 1, length, stdout);
+    bound[6] = 2;
+    refusal = jangoripu_assignment_write(&s, out, &length, &place);
+    printf("refused %u at %llu in input\n", (unsigned)refusal, (unsigned long long)place);
+}
+
 int main(void) {
     season();
     tank();
     untidy();
+    crosses();
     return 0;
 }

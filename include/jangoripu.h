@@ -1,4 +1,4 @@
-/* The nine calls of Jangoripu, exported from the static library libjangoripu.a, and a small layer over them at the end of this file.
+/* The eleven calls of Jangoripu, exported from the static library libjangoripu.a, and a small layer over them at the end of this file.
  *
  * A sheet is a graph: fish are its vertices, pairs its edges, merits its weights, limits its bounds; a plan is a subgraph, a group an
  * odd set and a leftover a slack. On a two-sided sheet (a bipartite graph) the dams are the rows and the sires the columns; on a
@@ -17,13 +17,19 @@
  * lacks; a gap of 0 proves the plan best, and so does a gap of 1. The solver's prices are even.
  *
  * A number in a text has one way to be written: 1 to 9 digits with no leading zero, unless it is the single digit 0, and - before a
- * weight, bound or price below 0. So 07, +7 and -0 are malformed: JANGORIPU_SIZE_LINE on a size line, JANGORIPU_LATER_LINE elsewhere. The
- * program rewrite puts texts that were stored with such numbers right.
+ * weight, bound or price below 0. So 07, +7 and -0 are malformed: JANGORIPU_SIZE_LINE on a size line, JANGORIPU_LATER_LINE elsewhere, and
+ * JANGORIPU_ASSIGNMENT_LINE in an assignment. The program rewrite puts Matrix Market texts that were stored with such numbers right.
  *
  * A sheet has one tidy form, a text: its header, of which all words but the first are in lower case, its size line, and its edges by rising
  * row and then column, with one space between words and numbers, byte 10 after every line, and nothing else. Two sheets have the same kind
  * and sizes and the same edges with the same weights exactly if their tidy forms are the same bytes. The edges of a tidy text are numbered in
  * its order: plans that are texts are read with it as before, but an index, marks and prices are for the order that they were made for.
+ *
+ * A two-sided sheet whose limits are all 1 has a DIMACS assignment text too: a line "p asn NODES ARCS", a line "n NODE" for each source node,
+ * and a line "a SOURCE TARGET COST" for each arc. The rows are the source nodes, 1 up to their number, and column j is node rows + j; an arc is
+ * an edge, in the order of the sheet, and its cost is the negated weight. It is written as a plan is, with one space and byte 10 after every
+ * line. In a text that is read, lines that begin with c are comments; these and blank lines may stand anywhere, and only blank lines begin
+ * with blanks. Letters keep their case, and numbers are those of a sheet.
  *
  * A slice is passed as a pointer and then its length, in numbers, which is exactly what is said at the call. A pointer may point
  * anywhere if its length is 0, but is NOT NULL; the layer below takes care of that. Slices that are written overlap no other.
@@ -64,15 +70,19 @@ enum jangoripu_refusal {
     JANGORIPU_PRICE = 13,        /* a price out of range; line, or position in vertex, then edge, then set prices */
     JANGORIPU_ODD_SET = 14,      /* an odd set (group) breaks a rule, or there are too many; set, or 17 */
     JANGORIPU_UNCOVERED = 15,    /* an edge (pair) is not covered; edge */
-    JANGORIPU_NOT_BIPARTITE = 16, /* a one-sided sheet given to the solver; 0 */
+    JANGORIPU_NOT_BIPARTITE = 16, /* a one-sided sheet given to the solver or to the assignment writer; 0 */
     JANGORIPU_DISAGREEMENT = 17, /* a plan's kind, rows, columns or count disagree with the sheet, or its pair is not on it; line */
-    JANGORIPU_INDEX = 18         /* the index is not the sheet's; position of the first number that differs, in offsets, then edge numbers */
+    JANGORIPU_INDEX = 18,        /* the index is not the sheet's; position of the first number that differs, in offsets, then edge numbers */
+    JANGORIPU_BOUND_NOT_ONE = 19, /* a bound (limit) of an assignment is not 1; vertex */
+    JANGORIPU_ASSIGNMENT_LINE = 20, /* a line of an assignment is malformed, too long, missing, surplus or out of turn; line */
+    JANGORIPU_SOURCES = 21       /* an assignment's source nodes are not 1 up to their number in rising order; line of the first wrong one */
 };
 
 /* Lengths and ranges. */
 #define JANGORIPU_MOST_SIDE 64           /* rows, and columns, of a two-sided sheet; from 1 */
 #define JANGORIPU_MOST_VERTICES 128      /* vertices; families of a one-sided sheet */
-#define JANGORIPU_MOST_EDGES 1024        /* edges; the length of a sheet reader's outputs */
+#define JANGORIPU_MOST_EDGES 1024        /* edges; the length of a sheet or assignment reader's outputs of edges */
+#define JANGORIPU_ASSIGNMENT_BOUNDS 128  /* the length of an assignment reader's output of limits */
 #define JANGORIPU_MOST_NUMBERS 1152      /* numbers in a text of limits or prices */
 #define JANGORIPU_LONGEST_INDEX 2177     /* numbers of an index: 128 + 1 + 2 * 1,024 */
 #define JANGORIPU_GREATEST_WEIGHT 1000000 /* a weight is from -1,000,000 to 1,000,000 */
@@ -84,7 +94,7 @@ enum jangoripu_refusal {
 #define JANGORIPU_LONGEST_TEXT 32768     /* bytes of a text */
 #define JANGORIPU_LONGEST_LINE 1024      /* bytes of a line */
 #define JANGORIPU_SUBGRAPH_BYTES 16384   /* the length of a plan writer's output */
-#define JANGORIPU_GRAPH_BYTES 32768      /* the length of a tidy sheet's output */
+#define JANGORIPU_GRAPH_BYTES 32768      /* the length of a tidy sheet's output, and of an assignment writer's */
 #define JANGORIPU_WORKSPACE_NUMBERS 4096 /* the length of the solver's workspace */
 #define JANGORIPU_STACK 65536            /* bytes of stack that are enough for a call, as measured */
 
@@ -131,6 +141,22 @@ uint32_t jangoripu_write_subgraph(bool general, uint32_t rows, uint32_t columns,
 uint32_t jangoripu_tidy_graph(bool general, uint32_t rows, uint32_t columns, uint32_t edges, const uint32_t *row, size_t row_len,
                               const uint32_t *column, size_t column_len, const int32_t *weight, size_t weight_len, uint8_t *out,
                               size_t out_len, uint64_t answer[2]);
+
+/* Writes a two-sided sheet whose limits are all 1 as an assignment. row, column and weight have exactly edges numbers each, bound exactly a
+ * number for each vertex, out exactly 32,768 bytes, 0 after the text. answer: place; length of the text.
+ * Refusals: 9, 4, 6, 7, 8, 10, 16, 19. No pointer is null. */
+uint32_t jangoripu_write_assignment(bool general, uint32_t rows, uint32_t columns, uint32_t edges, const uint32_t *row, size_t row_len,
+                                    const uint32_t *column, size_t column_len, const int32_t *weight, size_t weight_len,
+                                    const int32_t *bound, size_t bound_len, uint8_t *out, size_t out_len, uint64_t answer[2]);
+
+/* Reads an assignment as a two-sided sheet, its edges in the order of the arcs, and its limits, which are 1. row, column and weight have
+ * exactly 1,024 numbers each, bound exactly 128; those after the last edge or vertex are 0 afterwards.
+ * answer: place; kind, always 0; rows; columns; number of edges.
+ * Refusals: 9, 1, then line by line 20, 21, 4, 6, 7, 8; 4 is tested at the first arc, or at the end before a missing line, and its place is
+ * the p line. No pointer is null. */
+uint32_t jangoripu_read_assignment(const uint8_t *text, size_t text_len, uint32_t *row, size_t row_len, uint32_t *column,
+                                   size_t column_len, int32_t *weight, size_t weight_len, int32_t *bound, size_t bound_len,
+                                   uint64_t answer[5]);
 
 /* Builds the index of a sheet of either sort. row, column and weight have exactly edges numbers each; index has exactly
  * n + 1 + 2 * edges, n the number of vertices, and after a refusal only 0. Refusals: 9, 4, 6, 7, 8. No pointer is null. */
@@ -236,12 +262,9 @@ static inline uint32_t jangoripu_written(uint32_t refusal, const uint64_t told[J
     (s)->general, (s)->rows, (s)->columns, (s)->edges, JANGORIPU_READ(uint32_t, (s)->row, (s)->edges),                                    \
         JANGORIPU_READ(uint32_t, (s)->column, (s)->edges), JANGORIPU_READ(int32_t, (s)->weight, (s)->edges)
 
-/* Reads a sheet into arrays of 1,024 numbers each, and points s at them; s has no bounds and no index then. */
-static inline uint32_t jangoripu_sheet_read(jangoripu_sheet *s, const void *text, size_t length, uint32_t *row, uint32_t *column,
-                                            int32_t *weight, uint64_t *place) {
-    uint64_t told[JANGORIPU_GRAPH_TOLD];
-    uint32_t refusal = jangoripu_read_graph((const uint8_t *)jangoripu_some(text), length, row, JANGORIPU_MOST_EDGES, column,
-                                            JANGORIPU_MOST_EDGES, weight, JANGORIPU_MOST_EDGES, told);
+/* Points a sheet that was read at its arrays, and gives it the kind and the sizes that were told; it has no bounds and no index then. */
+static inline void jangoripu_sheet_told(jangoripu_sheet *s, const uint64_t told[JANGORIPU_GRAPH_TOLD], const uint32_t *row,
+                                        const uint32_t *column, const int32_t *weight) {
     s->general = told[JANGORIPU_GRAPH_KIND] == 1;
     s->rows = (uint32_t)told[JANGORIPU_GRAPH_ROWS];
     s->columns = (uint32_t)told[JANGORIPU_GRAPH_COLUMNS];
@@ -251,6 +274,27 @@ static inline uint32_t jangoripu_sheet_read(jangoripu_sheet *s, const void *text
     s->weight = weight;
     s->bound = NULL;
     s->index = NULL;
+}
+
+/* Reads a sheet into arrays of 1,024 numbers each, and points s at them; s has no bounds and no index then. */
+static inline uint32_t jangoripu_sheet_read(jangoripu_sheet *s, const void *text, size_t length, uint32_t *row, uint32_t *column,
+                                            int32_t *weight, uint64_t *place) {
+    uint64_t told[JANGORIPU_GRAPH_TOLD];
+    uint32_t refusal = jangoripu_read_graph((const uint8_t *)jangoripu_some(text), length, row, JANGORIPU_MOST_EDGES, column,
+                                            JANGORIPU_MOST_EDGES, weight, JANGORIPU_MOST_EDGES, told);
+    jangoripu_sheet_told(s, told, row, column, weight);
+    return jangoripu_told(refusal, told[JANGORIPU_GRAPH_PLACE], place);
+}
+
+/* Reads an assignment into three arrays of 1,024 numbers and one of 128 for the limits, and points s at them; s has no index then. */
+static inline uint32_t jangoripu_assignment_read(jangoripu_sheet *s, const void *text, size_t length, uint32_t *row, uint32_t *column,
+                                                 int32_t *weight, int32_t *bound, uint64_t *place) {
+    uint64_t told[JANGORIPU_GRAPH_TOLD];
+    uint32_t refusal = jangoripu_read_assignment((const uint8_t *)jangoripu_some(text), length, row, JANGORIPU_MOST_EDGES, column,
+                                                 JANGORIPU_MOST_EDGES, weight, JANGORIPU_MOST_EDGES, bound,
+                                                 JANGORIPU_ASSIGNMENT_BOUNDS, told);
+    jangoripu_sheet_told(s, told, row, column, weight);
+    s->bound = bound;
     return jangoripu_told(refusal, told[JANGORIPU_GRAPH_PLACE], place);
 }
 
@@ -297,6 +341,15 @@ static inline uint32_t jangoripu_plan_write(const jangoripu_sheet *s, const uint
 static inline uint32_t jangoripu_sheet_tidy(const jangoripu_sheet *s, uint8_t *out, size_t *length, uint64_t *place) {
     uint64_t told[JANGORIPU_TEXT_TOLD];
     uint32_t refusal = jangoripu_tidy_graph(JANGORIPU_NUMBERS(s), out, JANGORIPU_GRAPH_BYTES, told);
+    return jangoripu_written(refusal, told, length, place);
+}
+
+/* Writes the sheet and its limits, which must all be 1, as an assignment; out has 32,768 bytes, and *length is how many of them the text
+ * has. */
+static inline uint32_t jangoripu_assignment_write(const jangoripu_sheet *s, uint8_t *out, size_t *length, uint64_t *place) {
+    uint64_t told[JANGORIPU_TEXT_TOLD];
+    uint32_t refusal = jangoripu_write_assignment(JANGORIPU_NUMBERS(s), JANGORIPU_READ(int32_t, s->bound, jangoripu_vertices(s)), out,
+                                                  JANGORIPU_GRAPH_BYTES, told);
     return jangoripu_written(refusal, told, length, place);
 }
 

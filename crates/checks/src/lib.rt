@@ -21,7 +21,7 @@ ghost use lib.Signed.{leZ};
 ghost use Rattle.integers.specs.Integer.{between};
 ghost use Rattle.graph.specs.Limits.{mostVertices};
 ghost use Rattle.graph.specs.Refusal.{yields, refuses, lowest, passing};
-ghost use Rattle.graph.specs.Graph.{graphOf, verticesIn, shapeInRange, columnVertex, upTo, endsInRange, weightInRange, boundInRange, priceInRange};
+ghost use Rattle.graph.specs.Graph.{graphOf, verticesIn, shapeInRange, columnVertex, upTo, endsInRange, weightInRange, boundInRange, boundIsOne, priceInRange};
 ghost use Rattle.graph.specs.Subgraph.{degree};
 ghost use Rattle.graph.specs.Tests.{graphTests};
 ghost use Rattle.graph.specs.Passed.{Sound, MarksHold};
@@ -150,6 +150,13 @@ pub fn lowest_bound(bound: &[i32]) -> Lowest
     ensures { λ r. ⌜ lowestSays r ≡ lowest (length (now (bound .entry))) (λ v. boundInRange (getD (now (bound .entry)) v (pos 0))) ⌝ }
 {
     lowest_outside(bound, 0, GREATEST_BOUND)
+}
+
+// The lowest vertex whose bound is not 1.
+pub fn lowest_not_one(bound: &[i32]) -> Lowest
+    ensures { λ r. ⌜ lowestSays r ≡ lowest (length (now (bound .entry))) (λ v. boundIsOne (getD (now (bound .entry)) v (pos 0))) ⌝ }
+{
+    lowest_outside(bound, 1, 1)
 }
 
 // The lowest price that is out of range, by its position in the prices of vertices, then of edges, then of odd sets.

@@ -6,6 +6,7 @@ use lib.ListN.{getD}
 use Rattle.graph.specs.declared.Fault.{Fault}
 use Rattle.graph.specs.declared.Fault.the-variants.{TextLength, Header, SizeLine, Sizes, LaterLine, Ends, Weight, SameEnds}
 use Rattle.graph.specs.declared.Fault.the-variants.{LentLength, Bound, Mark, Degree, Price, OddSet, Uncovered, NotBipartite, Disagreement, WrongIndex}
+use Rattle.graph.specs.declared.Fault.the-variants.{BoundNotOne, AssignmentLine, Sources}
 use Rattle.graph.specs.Refusal.{numberOf, Outcome, yields, refuses, Told, tells, refusedWith, told}
 
 -- The faults by their numbers, which count from 1.
@@ -13,7 +14,7 @@ abbrev faultWith : ℕ → Fault
 faultWith n =
     getD
     (TextLength ∷ TextLength ∷ Header ∷ SizeLine ∷ Sizes ∷ LaterLine ∷ Ends ∷ Weight ∷ SameEnds ∷ LentLength ∷ Bound ∷ Mark ∷ Degree ∷ Price
-    ∷ OddSet ∷ Uncovered ∷ NotBipartite ∷ Disagreement ∷ WrongIndex ∷ [])
+    ∷ OddSet ∷ Uncovered ∷ NotBipartite ∷ Disagreement ∷ WrongIndex ∷ BoundNotOne ∷ AssignmentLine ∷ Sources ∷ [])
     n TextLength
 
 fault-back : (f : Fault) → faultWith (numberOf f) ≡ f
@@ -35,6 +36,9 @@ fault-back Uncovered = refl
 fault-back NotBipartite = refl
 fault-back Disagreement = refl
 fault-back WrongIndex = refl
+fault-back BoundNotOne = refl
+fault-back AssignmentLine = refl
+fault-back Sources = refl
 
 abbrev outcomeOf : {A : Type 0} → Told A → Outcome A
 outcomeOf (tells a) = yields a

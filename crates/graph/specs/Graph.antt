@@ -113,6 +113,10 @@ joined g n r c = some? n (joins g r c)
 abbrev pub boundInRange : ℤ → Bool
 boundInRange z = between (pos 0) (pos greatestBound) z
 
+-- A bound is 1, as each is where a graph goes out as an assignment text (request U7).
+abbrev pub boundIsOne : ℤ → Bool
+boundIsOne z = between (pos 1) (pos 1) z
+
 -- A price is from 0 to 4,000,000 half points.
 abbrev pub priceInRange : ℤ → Bool
 priceInRange z = between (pos 0) (pos greatestPrice) z

@@ -7,6 +7,7 @@ use lib.ListN.{length, replicate}
 use Rattle.graph.specs.declared.Fault.{Fault}
 use Rattle.graph.specs.declared.Fault.the-variants.{TextLength, Header, SizeLine, Sizes, LaterLine, Ends, Weight, SameEnds}
 use Rattle.graph.specs.declared.Fault.the-variants.{LentLength, Bound, Mark, Degree, Price, OddSet, Uncovered, NotBipartite, Disagreement, WrongIndex}
+use Rattle.graph.specs.declared.Fault.the-variants.{BoundNotOne, AssignmentLine, Sources}
 
 -- The refusal table of documents 01 and 02: each fault's number.
 abbrev pub numberOf : Fault → ℕ
@@ -46,6 +47,12 @@ numberOf NotBipartite = 16
 numberOf Disagreement = 17
 -- the lent index is not the graph's
 numberOf WrongIndex = 18
+-- a bound (limit) is not 1
+numberOf BoundNotOne = 19
+-- a DIMACS line malformed, out of turn, too long, missing or surplus
+numberOf AssignmentLine = 20
+-- the source nodes are not 1 up to their count in rising order
+numberOf Sources = 21
 
 -- What a call yields: a result, or a refusal: a fault and its place.
 pub data Outcome (A : Type 0) : Type 0 where

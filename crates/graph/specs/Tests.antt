@@ -8,9 +8,9 @@ use lib.ListN.{length}
 use lib.Signed.{leZ}
 use Rattle.graph.specs.declared.Kind.{Kind}
 use Rattle.graph.specs.declared.Kind.the-variants.{Bipartite, General}
-use Rattle.graph.specs.declared.Fault.the-variants.{Sizes, Ends, Weight, SameEnds, Bound, Mark, Degree, NotBipartite}
+use Rattle.graph.specs.declared.Fault.the-variants.{Sizes, Ends, Weight, SameEnds, Bound, Mark, Degree, NotBipartite, BoundNotOne}
 use Rattle.graph.specs.Refusal.{Test, once, each}
-use Rattle.graph.specs.Graph.{Graph, vertices, rowAt, columnAt, weightAt, boundAt, sizesInRange, endsInRange, weightInRange, boundInRange, joined}
+use Rattle.graph.specs.Graph.{Graph, vertices, rowAt, columnAt, weightAt, boundAt, sizesInRange, endsInRange, weightInRange, boundInRange, boundIsOne, joined}
 use Rattle.graph.specs.Subgraph.{markAt, degree}
 
 -- The lent lengths (9): what is lent of the graph is as long as the number of edges passed.
@@ -30,7 +30,11 @@ graphTests g =
 abbrev pub boundTest : Graph → List ℤ → Test
 boundTest g bound = each Bound (vertices g) (λ v. boundInRange (boundAt bound v))
 
--- The solver takes bipartite graphs only (16).
+-- Each bound is 1 (19).
+abbrev pub oneTest : Graph → List ℤ → Test
+oneTest g bound = each BoundNotOne (vertices g) (λ v. boundIsOne (boundAt bound v))
+
+-- The solver takes bipartite graphs only (16), and so does the writer of assignment texts.
 abbrev pub isBipartite : Kind → Bool
 isBipartite Bipartite = true
 isBipartite General = false

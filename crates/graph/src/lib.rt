@@ -77,6 +77,9 @@ pub enum Fault {
     NotBipartite,
     Disagreement,
     WrongIndex,
+    BoundNotOne,
+    AssignmentLine,
+    Sources,
 }
 
 // A refusal: what is refused, and its place.
@@ -108,5 +111,8 @@ pub fn number(fault: Fault) -> u32
         Fault::NotBipartite => 16,
         Fault::Disagreement => 17,
         Fault::WrongIndex => 18,
+        Fault::BoundNotOne => 19,
+        Fault::AssignmentLine => 20,
+        Fault::Sources => 21,
     }
 }

@@ -1,3 +1,2 @@
 pub mod OnLine
-pub mod Edges
 pub mod Whole

@@ -1,17 +1,13 @@
 -- What `put_edge` and `put_graph` write: the line of an edge part by part, and the lines of the edges after the header and the size line.
-use mathlib.Core.Path.{_≡_, refl, sym, ap, _∙_, subst}
-use mathlib.Core.List.{List, [], _∷_, _++_, append-assoc}
+use mathlib.Core.Path.{_≡_, sym, ap, _∙_, subst}
+use mathlib.Core.List.{List, [], _∷_, _++_}
 use Prim.Native.Nat.{ℕ, _+_, _^_, _≤_, _<_}
-use native.Mathlib.Numerals.{add-one}
 use native.Mathlib.Omega.{arith}
 use lib.IntN.{ℤ, pos}
-use lib.ListN.{length, getD, set, replicate, length-append, length-replicate, length-set, length-map}
-use lib.Seq.{append-snoc}
+use lib.ListN.{length, getD, set, replicate, length-append, length-replicate, length-map}
 use lib.Signed.{mag}
 use mir.Syntax.{w64}
 use mir.Val.{hbits}
-use Rattle.integers.specs.Integer.{Within}
-use Rattle.integers.proofs.Order.{back}
 use Rattle.graph.specs.declared.Shape.{Shape}
 use Rattle.graph.specs.Limits.{longestText}
 use Rattle.graph.specs.Graph.{Graph, graphOf, rowAt, columnAt, weightAt}
@@ -20,71 +16,43 @@ use Rattle.layout.specs.Text.{decimal, signed, spaced, unlines}
 use Rattle.layout.specs.GraphText.{edgeLine, edgeLines, graphText}
 use Rattle.layout.specs.TidyText.{inOrder}
 use Rattle.readback.proofs.Pieces.{unlines-append, length-line, length-no-line}
-use Rattle.readback.proofs.Growing.{growing-text}
+use Rattle.readback.proofs.Growing.{growing-none, growing-next}
 use Rattle.readback.proofs.Fits.{lines-growing, graph-line-le, graph-text-le}
 use Rattle.tidying.proofs.Tidied.{map-at}
 use Rattle.writer.specs.Written.{Puts, Written, headLines}
-use Rattle.writer.proofs.Over.{puts-none, puts-long, puts-byte, puts-then, puts-next, puts-same, zeros-written}
+use Rattle.writer.proofs.Over.{puts-then, puts-same, zeros-written}
 use Rattle.writer.proofs.Signs.{fromBits}
+use Rattle.writer.proofs.Parts.{Part, part-none, part-next, part-byte, part-signed, blanked}
 use Rattle.writer.proofs.Lines.{head-le}
 use Rattle.graph_writer.specs.Order.{Ordered}
 use Rattle.writer.proofs.Writing.{Writing, writing-starts, writing-room, writing-more, writing-ends}
 
 -- ---- the line of an edge
 
--- The bytes xs were written from `at` on in d, which is now l; they end at e, which is at most n.
-pub record Part (d : List ℕ) (at : ℕ) (xs l : List ℕ) (e n : ℕ) : Type 0 where
-  pub puts : Puts d at xs l e
-  pub within : e ≤ n
-  pub long : length l ≡ length d
-
-part-none : (d : List ℕ) (at : ℕ) → Part d at [] d at at
-part-none d at = record { puts = puts-none d at; within = omega arith; long = refl }
-
-module _ {d : List ℕ} {at : ℕ} {xs l : List ℕ} {a n : ℕ} (p : Part d at xs l a n) where
-  -- A number more, and a byte more.
-  part-next : {ys m : List ℕ} {e : ℕ} (k : ℕ) → Puts l a ys m e × (e ≤ a + k) → n + k ≤ length d → Part d at (xs ++ ys) m e (n + k)
-  part-next k (q, w) room =
-      let both = puts-next (p .puts) q (omega (arith, p .within)) in
-      record { puts = both; within = omega (arith, p .within); long = puts-long both (omega (arith, both .place, p .within)) }
-
-  part-byte : (x : ℕ) → n < length d → Part d at (xs ++ (x ∷ [])) (set l a x) (a + 1) (n + 1)
-  part-byte x room = record {
-    puts = puts-byte (p .puts) x (omega (arith, p .puts .place, p .within));
-    within = omega (arith, p .within);
-    long = length-set l a x ∙ p .long;
-  }
-
 -- The row and the column, each with a blank.
 abbrev pub ends : ℕ → ℕ → List ℕ
-ends r c = (decimal r ++ (32 ∷ []) ++ decimal c) ++ (32 ∷ [])
+ends r c = (decimal r ++ (32 ∷ [])) ++ (decimal c ++ (32 ∷ []))
 
 line-is : (r c : ℕ) (w : ℤ) → (ends r c ++ signed w) ++ (10 ∷ []) ≡ unlines (spaced (decimal r ∷ decimal c ∷ signed w ∷ []) ∷ [])
-unfolding unlines spaced
-line-is r c w =
-    ap (λ (l : List ℕ). l ++ (10 ∷ []))
-    (append-snoc (decimal r ++ (32 ∷ []) ++ decimal c) 32 (signed w)
-    ∙ ap (λ (l : List ℕ). l ++ (32 ∷ signed w)) (append-snoc (decimal r) 32 (decimal c))
-    ∙ append-assoc (decimal r) (32 ∷ decimal c) (32 ∷ signed w))
+unfolding unlines
+line-is r c w = ap (λ (l : List ℕ). l ++ (10 ∷ [])) (blanked (decimal r) (decimal c) (signed w))
 
 -- After the row, and after the column, each with a blank; and after the weight.
 module _ {d : List ℕ} {at : ℕ} (room : at + 64 ≤ length d) (r : ℕ) where
-  pub row-part : {l : List ℕ} {a : ℕ} → Puts d at (decimal r) l a × (a ≤ at + 20) → Part d at (decimal r ++ (32 ∷ [])) (set l a 32) (a + 1) (at + 20 + 1)
-  row-part p = part-byte (part-next (part-none d at) 20 p (omega arith)) 32 (omega arith)
+  pub row-part : {l : List ℕ} {a : ℕ} → Puts d at (decimal r ++ (32 ∷ [])) l a × (a ≤ at + 21) → Part d at (decimal r ++ (32 ∷ [])) l a (at + 21)
+  row-part p = part-next (part-none d at) 21 p (omega arith)
 
   module _ (c : ℕ) where
-    pub column-part : {l m : List ℕ} {a b : ℕ} → Part d at (decimal r ++ (32 ∷ [])) l a (at + 20 + 1) → Puts l a (decimal c) m b × (b ≤ a + 20)
-        → Part d at (ends r c) (set m b 32) (b + 1) (at + 20 + 1 + 20 + 1)
-    column-part p q = part-byte (part-next p 20 q (omega arith)) 32 (omega arith)
+    pub column-part : {l m : List ℕ} {a b : ℕ} → Part d at (decimal r ++ (32 ∷ [])) l a (at + 21) → Puts l a (decimal c ++ (32 ∷ [])) m b × (b ≤ a + 21)
+        → Part d at (ends r c) m b (at + 21 + 21)
+    column-part p q = part-next p 21 q (omega arith)
 
     module _ (w : ℤ) where
-      pub weight-part : {v : ℤ} {l m : List ℕ} {b e : ℕ} → (v ≡ w) × Within (2 ^ 31) v → mag v < 2 ^ hbits w64
-          → Part d at (ends r c) l b (at + 20 + 1 + 20 + 1) → Puts l b (signed (fromBits v)) m e × (e ≤ b + 21)
-          → Part d at (ends r c ++ signed w) m e (at + 20 + 1 + 20 + 1 + 21)
-      weight-part {v} {l} {m} {b} {e} (is, small) fits p (q, k) =
-          part-next p 21 (subst (λ (z : ℤ). Puts l b (signed z) m e) (back w64 v fits ∙ is) q, k) (omega arith)
+      pub weight-part : {v : ℤ} {l m : List ℕ} {b e : ℕ} → v ≡ w → mag v < 2 ^ hbits w64 → Part d at (ends r c) l b (at + 21 + 21)
+          → Puts l b (signed (fromBits v)) m e × (e ≤ b + 21) → Part d at (ends r c ++ signed w) m e (at + 21 + 21 + 21)
+      weight-part is fits p q = part-signed p is fits q (omega arith)
 
-      pub line-put : {m : List ℕ} {e : ℕ} → Part d at (ends r c ++ signed w) m e (at + 20 + 1 + 20 + 1 + 21)
+      pub line-put : {m : List ℕ} {e : ℕ} → Part d at (ends r c ++ signed w) m e (at + 21 + 21 + 21)
           → Puts d at (unlines (spaced (decimal r ∷ decimal c ∷ signed w ∷ []) ∷ [])) (set m e 10) (e + 1)
       line-put p = puts-same (part-byte p 10 (omega arith) .puts) (line-is r c w)
 
@@ -97,13 +65,6 @@ textFor row column weight order s n = unlines (edgeLines (inOrder (graphOf s row
 -- They have been written from start on.
 abbrev pub EdgesWriting : List ℕ → List ℕ → List ℤ → List ℕ → List ℕ → ℕ → List ℕ → ℕ → ℕ → Type 0
 EdgesWriting row column weight order = Writing (textFor row column weight order) (length order) 17 64
-
-no-lines : (g : Graph) → [] ≡ unlines (edgeLines g 0)
-unfolding unlines
-no-lines g = ap unlines (sym (lines-growing g .start))
-
-more-lines : (g : Graph) (n : ℕ) → unlines (edgeLines g n) ++ unlines (edgeLine g n ∷ []) ≡ unlines (edgeLines g (n + 1))
-more-lines g n = sym (growing-text (lines-growing g) n) ∙ ap (λ (j : ℕ). unlines (edgeLines g j)) (sym (add-one n))
 
 module _ {s : Shape} {row column : List ℕ} {weight : List ℤ} {order : List ℕ} (O : Ordered (graphOf s row column weight) order) where
   abbrev G : Graph
@@ -120,7 +81,7 @@ module _ {s : Shape} {row column : List ℕ} {weight : List ℤ} {order : List �
 
   pub edges-start : (d : List ℕ) (start : ℕ) → start + 17472 ≤ length d → EdgesWriting row column weight order d start d start 0
   edges-start d start h =
-      writing-starts (textFor row column weight order) (length order) 17 64 d start (λ t. no-lines (inOrder (graphOf t row column weight) order))
+      writing-starts (textFor row column weight order) (length order) 17 64 d start (λ t. growing-none (lines-growing (inOrder (graphOf t row column weight) order)))
       (omega (arith, order-few))
 
   -- The edge at place n of the order.
@@ -154,7 +115,7 @@ module _ {s : Shape} {row column : List ℕ} {weight : List ℤ} {order : List �
           → Puts l at (unlines (spaced (decimal (rowAt G E) ∷ decimal (columnAt G E) ∷ signed (weightAt G E) ∷ []) ∷ [])) l′ at′
           → EdgesWriting row column weight order d start l′ at′ (n + 1)
       edges-more long q =
-          writing-more (textFor row column weight order) (length order) 17 64 W lt line-few (λ t. more-lines (inOrder (graphOf t row column weight) order) n) long
+          writing-more (textFor row column weight order) (length order) 17 64 W lt line-few (λ t. growing-next (lines-growing (inOrder (graphOf t row column weight) order)) n) long
           (puts-same q (ap (λ (x : List ℕ). unlines (x ∷ [])) line-at))
 
   pub edges-end : {d : List ℕ} {start : ℕ} {l : List ℕ} {at n : ℕ} → EdgesWriting row column weight order d start l at n → length order ≤ n

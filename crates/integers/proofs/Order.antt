@@ -137,6 +137,9 @@ within-add x y h k = omega (arith, add-small x y)
 pub within-diff : (x y : ℤ) {m n : ℕ} → Within m x → Within n y → Within (m + n) (x -ℤ y)
 within-diff x y h k = omega (arith, diff-small x y)
 
+pub within-neg : (x : ℤ) {n : ℕ} → Within n x → Within n (negℤ x)
+within-neg x h = omega (arith, up-neg x)
+
 pub within-times : (k : ℕ) (x : ℤ) {n : ℕ} → Within n x → Within (k * n) (pos k *ℤ x)
 within-times k x {n} h = omega (arith, up-times k x, mul-add k (up x) (dn x), mul-le-mul-left k h)
 

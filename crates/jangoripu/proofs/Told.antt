@@ -4,16 +4,17 @@ use mathlib.Core.Path.{_≡_, refl, ap, _∙_}
 use mathlib.Core.List.{List}
 use lib.IntN.{ℤ, pos}
 use lib.ListN.{length}
-use Rattle.graph.specs.declared.Shape.{Shape}
 use Rattle.graph.specs.Refusal.{Outcome, yields, refuses, told, reported, output}
 use Rattle.graph.specs.Graph.{Graph, shapeOf}
 use Rattle.graph.proofs.Told.{told-same}
+use Rattle.layout.specs.declared.GraphAnswer.{GraphAnswer}
+use Rattle.layout.specs.declared.GraphAnswer.the-variants as GraphAnswer
 use Rattle.layout.specs.declared.TextAnswer.{TextAnswer}
 use Rattle.layout.specs.declared.TextAnswer.the-variants as TextAnswer
-use Rattle.layout.specs.Answers.{textSays}
+use Rattle.layout.specs.Answers.{graphSays, textSays}
 use Rattle.dual.specs.declared.Measures.{Measures}
 use Rattle.dual.specs.Solve.{Lent, solve, Left}
-use Rattle.jangoripu.specs.Exports.{numberIn, placeIn, shapeTold, lengthTold, textOutcome, measuresTold, GraphRead, Filled, Tested, TextWritten, Measured, GraphSolved}
+use Rattle.jangoripu.specs.Exports.{numberIn, placeIn, shapeTold, shapeOutcome, lengthTold, textOutcome, measuresTold, GraphRead, Filled, Tested, TextWritten, Measured, GraphSolved}
 
 -- A report keeps the number and the place of a refusal.
 pub number-kept : {A B : Type 0} (f : A → B) (W : Outcome A) → numberIn (reported f W) ≡ numberIn W
@@ -24,17 +25,23 @@ pub place-kept : {A B : Type 0} (f : A → B) (W : Outcome A) → placeIn (repor
 place-kept f (yields a) = refl
 place-kept f (refuses fault place) = refl
 
+shape-says : (a : GraphAnswer) → told (shapeOutcome a) ≡ graphSays a
+shape-says (GraphAnswer.Graph s) = refl
+shape-says (GraphAnswer.Refused r) = refl
+
 pub graph-read :
-    (o : Outcome Shape) {W : Outcome Graph} {a b c : ℕ} {row column : List ℕ} {weight : List ℤ} → told o ≡ told (reported shapeOf W)
-    → row ≡ output a 0 (λ g. g .row) W → column ≡ output b 0 (λ g. g .column) W → weight ≡ output c (pos 0) (λ g. g .weight) W
-    → GraphRead W a b c (numberIn o) (shapeTold o) row column weight
-graph-read o {W} says rows columns weights = record {
-  number = ap numberIn (told-same o (reported shapeOf W) says) ∙ number-kept shapeOf W;
-  told = ap shapeTold (told-same o (reported shapeOf W) says);
-  rows = rows;
-  columns = columns;
-  weights = weights;
-}
+    (a : GraphAnswer) {W : Outcome Graph} {i j k r : ℕ} {answer row column : List ℕ} {weight : List ℤ} → graphSays a ≡ told (reported shapeOf W)
+    → row ≡ output i 0 (λ g. g .row) W → column ≡ output j 0 (λ g. g .column) W → weight ≡ output k (pos 0) (λ g. g .weight) W
+    → (r ≡ numberIn (shapeOutcome a)) × (answer ≡ shapeTold (shapeOutcome a)) → GraphRead W i j k r answer row column weight
+graph-read a {W} says rows columns weights tells =
+    let e = told-same (shapeOutcome a) (reported shapeOf W) (shape-says a ∙ says) in
+    record {
+      number = tells .0 ∙ ap numberIn e ∙ number-kept shapeOf W;
+      told = tells .1 ∙ ap shapeTold e;
+      rows = rows;
+      columns = columns;
+      weights = weights;
+    }
 
 pub filling-told :
     {N : Type 0} (o : Outcome (Unit {0})) {W : Outcome (List N)} {n : ℕ} {z : N} {out : List N} → told o ≡ told (reported (λ xs. tt) W)

@@ -10,10 +10,13 @@ use Rattle.graph.specs.declared.Shape.{Shape}
 use Rattle.graph.specs.declared.Kind.the-variants.{Bipartite, General}
 use Rattle.graph.specs.Refusal.{Outcome, yields, refuses, numberOf, reported, output}
 use Rattle.graph.specs.Graph.{Graph, shapeOf}
+use Rattle.layout.specs.declared.GraphAnswer.{GraphAnswer}
+use Rattle.layout.specs.declared.GraphAnswer.the-variants as GraphAnswer
 use Rattle.layout.specs.declared.TextAnswer.{TextAnswer}
 use Rattle.layout.specs.declared.TextAnswer.the-variants as TextAnswer
 use Rattle.layout.specs.declared.Numbers.{Numbers}
 use Rattle.layout.specs.declared.Numbers.the-variants.{Bounds, Prices}
+use Rattle.layout.specs.AssignmentText.{unitBounds}
 use Rattle.dual.specs.declared.Measures.{Measures}
 use Rattle.dual.specs.Solve.{Lent, solve, Left}
 
@@ -48,6 +51,11 @@ abbrev pub shapeTold : Outcome Shape → List ℕ
 shapeTold (yields s) = 0 ∷ kindNumber (s .kind) ∷ s .rows ∷ s .columns ∷ s .edges ∷ []
 shapeTold (refuses fault place) = place ∷ 0 ∷ 0 ∷ 0 ∷ 0 ∷ []
 
+-- What it answers, as an outcome.
+abbrev pub shapeOutcome : GraphAnswer → Outcome Shape
+shapeOutcome (GraphAnswer.Graph s) = yields s
+shapeOutcome (GraphAnswer.Refused r) = refuses (r .fault) (r .place)
+
 -- What a call that writes a text tells: the place, and the text's length.
 abbrev pub lengthTold : Outcome ℕ → List ℕ
 lengthTold (yields n) = 0 ∷ n ∷ []
@@ -70,6 +78,11 @@ pub record GraphRead (W : Outcome Graph) (a b c r : ℕ) (answer row column : Li
   pub rows : row ≡ output a 0 (λ g. g .row) W
   pub columns : column ≡ output b 0 (λ g. g .column) W
   pub weights : weight ≡ output c (pos 0) (λ g. g .weight) W
+
+-- It has read a graph whose bounds are all 1, which an output of d numbers holds.
+pub record AssignmentRead (W : Outcome Graph) (a b c d r : ℕ) (answer row column : List ℕ) (weight bound : List ℤ) : Type 0 where
+  pub graph : GraphRead W a b c r answer row column weight
+  pub bounds : bound ≡ output d (pos 0) unitBounds W
 
 -- A call that yields W has filled an output of n numbers, where z is 0.
 pub record Filled (N : Type 0) (W : Outcome (List N)) (n : ℕ) (z : N) (r place : ℕ) (out : List N) : Type 0 where

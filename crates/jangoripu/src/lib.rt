@@ -1,4 +1,4 @@
-// The nine public calls, exported for C and Rust; include/jangoripu.h declares them.
+// The eleven public calls, exported for C and Rust; include/jangoripu.h declares them.
 //
 // Each returns 0 for a result, or the number of a refusal, and tells the refusal's place. A kind is a bool: false for bipartite (two-sided),
 // true for general (one-sided); so is the sort of numbers: false for bounds (limits), true for prices. No other value can be passed.
@@ -21,13 +21,14 @@ ghost use Rattle.layout.specs.GraphText.{readGraph};
 ghost use Rattle.layout.specs.NumberText.{readNumbers};
 ghost use Rattle.layout.specs.SubgraphText.{readSubgraph, writeSubgraph};
 ghost use Rattle.layout.specs.TidyText.{tidyGraph};
+ghost use Rattle.layout.specs.AssignmentText.{writeAssignment, readAssignment};
 ghost use Rattle.graph.specs.Refusal.{numberOf};
 ghost use Rattle.graph.specs.Graph.{graphOf};
 ghost use Rattle.graph.specs.Index.{buildIndex, testIndex};
 ghost use Rattle.dual.specs.Prices.{pricesOf};
 ghost use Rattle.dual.specs.Measure.{measure};
 ghost use Rattle.dual.specs.Solve.{lentOf};
-ghost use Rattle.jangoripu.specs.Exports.{kindOf, shapeGiven, kindNumber, numbersOf, numberIn, lengthTold, textOutcome, GraphRead, Filled, Tested, TextWritten, GraphSolved, Measured};
+ghost use Rattle.jangoripu.specs.Exports.{kindOf, shapeGiven, kindNumber, numbersOf, numberIn, shapeTold, shapeOutcome, lengthTold, textOutcome, GraphRead, AssignmentRead, Filled, Tested, TextWritten, GraphSolved, Measured};
 
 // The kind that is passed as a bool.
 fn kind_of(general: bool) -> Kind
@@ -100,18 +101,11 @@ fn tell_text(told: TextAnswer, answer: &mut [u64; 2]) -> u32
     }
 }
 
-// Reads a graph (sheet). The answer tells the place, and kind, rows, columns and the number of edges.
-#[no_mangle]
-pub extern "C" fn jangoripu_read_graph(
-    text: &[u8],
-    row: &mut [u32],
-    column: &mut [u32],
-    weight: &mut [i32],
-    answer: &mut [u64; 5],
-) -> u32
-    ensures { λ r. ⌜ GraphRead (readGraph (length (now (row .entry))) (length (now (column .entry))) (length (now (weight .entry))) (now (text .entry))) (length (now (row .entry))) (length (now (column .entry))) (length (now (weight .entry))) r (now (answer .exit)) (now (row .exit)) (now (column .exit)) (now (weight .exit)) ⌝ }
+// Tells the place of a refusal and the shape of a graph, as a reader of one answers them, and answers the refusal's number.
+fn tell_shape(told: GraphAnswer, answer: &mut [u64; 5]) -> u32
+    ensures { λ r. ⌜ (r ≡ numberIn (shapeOutcome told)) × (now (answer .exit) ≡ shapeTold (shapeOutcome told)) ⌝ }
 {
-    match graph_reader::read_graph(text, row, column, weight) {
+    match told {
         GraphAnswer::Graph(s) => {
             let kind = s.kind;
             let number = kind_number(kind);
@@ -124,6 +118,21 @@ pub extern "C" fn jangoripu_read_graph(
             graph::number(fault)
         }
     }
+}
+
+// Reads a graph (sheet). The answer tells the place, and kind, rows, columns and the number of edges.
+#[no_mangle]
+pub extern "C" fn jangoripu_read_graph(
+    text: &[u8],
+    row: &mut [u32],
+    column: &mut [u32],
+    weight: &mut [i32],
+    answer: &mut [u64; 5],
+) -> u32
+    ensures { λ r. ⌜ GraphRead (readGraph (length (now (row .entry))) (length (now (column .entry))) (length (now (weight .entry))) (now (text .entry))) (length (now (row .entry))) (length (now (column .entry))) (length (now (weight .entry))) r (now (answer .exit)) (now (row .exit)) (now (column .exit)) (now (weight .exit)) ⌝ }
+{
+    let told = graph_reader::read_graph(text, row, column, weight);
+    tell_shape(told, answer)
 }
 
 // Reads `count` bounds (limits) or prices.
@@ -212,6 +221,43 @@ pub extern "C" fn jangoripu_tidy_graph(
     let s = shape_of(general, rows, columns, edges);
     let told = tidier::tidy_graph(s, row, column, weight, out);
     tell_text(told, answer)
+}
+
+// Writes a graph whose bounds are all 1 as a DIMACS assignment text. The answer tells the place, and the text's length.
+#[no_mangle]
+pub extern "C" fn jangoripu_write_assignment(
+    general: bool,
+    rows: u32,
+    columns: u32,
+    edges: u32,
+    row: &[u32],
+    column: &[u32],
+    weight: &[i32],
+    bound: &[i32],
+    out: &mut [u8],
+    answer: &mut [u64; 2],
+) -> u32
+    ensures { λ r. ⌜ TextWritten (writeAssignment (graphOf (shapeGiven general rows columns edges) (now (row .entry)) (now (column .entry)) (now (weight .entry))) (now (bound .entry)) (length (now (out .entry)))) (length (now (out .entry))) r (now (answer .exit)) (now (out .exit)) ⌝ }
+{
+    let s = shape_of(general, rows, columns, edges);
+    let told = assignment_writer::write_assignment(s, row, column, weight, bound, out);
+    tell_text(told, answer)
+}
+
+// Reads a DIMACS assignment text: a graph, and its bounds, which are all 1. The answer tells the place, and kind, rows, columns and the number of edges.
+#[no_mangle]
+pub extern "C" fn jangoripu_read_assignment(
+    text: &[u8],
+    row: &mut [u32],
+    column: &mut [u32],
+    weight: &mut [i32],
+    bound: &mut [i32],
+    answer: &mut [u64; 5],
+) -> u32
+    ensures { λ r. ⌜ AssignmentRead (readAssignment (length (now (row .entry))) (length (now (column .entry))) (length (now (weight .entry))) (length (now (bound .entry))) (now (text .entry))) (length (now (row .entry))) (length (now (column .entry))) (length (now (weight .entry))) (length (now (bound .entry))) r (now (answer .exit)) (now (row .exit)) (now (column .exit)) (now (weight .exit)) (now (bound .exit)) ⌝ }
+{
+    let told = assignment_reader::read_assignment(text, row, column, weight, bound);
+    tell_shape(told, answer)
 }
 
 // Builds the index of a graph (the pairs of each fish at hand).

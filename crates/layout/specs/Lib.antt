@@ -4,5 +4,6 @@ pub mod GraphText
 pub mod NumberText
 pub mod SubgraphText
 pub mod TidyText
+pub mod AssignmentText
 pub mod Rewrite
 pub mod Answers

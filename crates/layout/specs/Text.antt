@@ -130,9 +130,12 @@ noWords (w ∷ ws) = false
 abbrev pub blankLine : List ℕ → Bool
 blankLine l = noWords (words l)
 
+abbrev pub startsWith : ℕ → List ℕ → Bool
+startsWith b [] = false
+startsWith b (x ∷ l) = eqb x b
+
 abbrev pub commentLine : List ℕ → Bool
-commentLine [] = false
-commentLine (x ∷ l) = eqb x 37
+commentLine l = startsWith 37 l
 
 -- A to Z as a to z, and every other byte as it is.
 abbrev pub lower : ℕ → ℕ

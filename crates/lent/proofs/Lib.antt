@@ -2,3 +2,4 @@ pub mod Setting
 pub mod Filling
 pub mod Lengths
 pub mod Parts
+pub mod Bipartite

@@ -1,5 +1,5 @@
 -- The first numbers of an array, lent and come back.
-use Prim.Native.Nat.{ℕ, _≤_}
+use Prim.Native.Nat.{ℕ, zero, suc, _-_, _≤_}
 use mathlib.Core.Path.{_≡_, sym, ap, _∙_}
 use mathlib.Core.List.{List, _++_}
 use native.Mathlib.Omega.{arith}
@@ -24,3 +24,9 @@ came-back n xs {part} fits kept =
 -- The first k numbers of an array of zeros.
 pub zeros-lent : {N : Type 0} (z : N) (n : ℕ) {k : ℕ} → k ≤ n → k ≡ length (take k (replicate n z))
 zeros-lent z n {k} room = first-long k (replicate n z) (omega (arith, length-replicate n z))
+
+-- What is left of an array of zeros after the first k.
+pub drop-zeros : {N : Type 0} (z : N) (k n : ℕ) → drop k (replicate n z) ≡ replicate (n - k) z
+drop-zeros z zero n = let e : n ≡ n - 0 = omega arith in ap (λ (j : ℕ). replicate j z) e
+drop-zeros z (suc k) zero = let e : 0 ≡ 0 - suc k = omega arith in ap (λ (j : ℕ). replicate j z) e
+drop-zeros z (suc k) (suc n) = let e : n - k ≡ suc n - suc k = omega arith in drop-zeros z k n ∙ ap (λ (j : ℕ). replicate j z) e

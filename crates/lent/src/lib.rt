@@ -1,7 +1,9 @@
 // What a caller lends: tests of the lengths and the numbers of a graph, and outputs that are cleared or filled.
 use checks::Check;
+use checks::Lowest;
 use checks::both;
 use graph::Fault;
+use graph::Kind;
 use graph::Shape;
 ghost use mathlib.Core.Path.{_≡_};
 ghost use mathlib.Core.Bool.{_&&_};
@@ -14,6 +16,7 @@ ghost use Rattle.graph.specs.Refusal.{yields, once, passing};
 ghost use Rattle.graph.specs.Graph.{graphOf};
 ghost use Rattle.graph.specs.Tests.{graphLengths, graphTests};
 ghost use Rattle.checks.specs.Checks.{checkSays};
+ghost use Rattle.lent.specs.Bipartite.{bipartiteTests};
 
 // Whether what is lent of a graph is as long as the number of edges passed.
 fn lengths_match(edges: u32, row: &[u32], column: &[u32], weight: &[i32]) -> bool
@@ -32,6 +35,31 @@ pub fn check_lent(s: Shape, row: &[u32], column: &[u32], weight: &[i32], others:
     } else {
         checks::refused(Fault::LentLength, 0)
     }
+}
+
+// The tests of a call that takes a bipartite graph with bounds, in their order. Of the lengths it has tested others itself.
+pub fn check_bipartite(
+    s: Shape,
+    row: &[u32],
+    column: &[u32],
+    weight: &[i32],
+    bound: &[i32],
+    others: bool,
+) -> Check
+    ensures { λ r. ⌜ checkSays r ≡ passing (bipartiteTests (graphOf s (now (row .entry)) (now (column .entry)) (now (weight .entry))) (now (bound .entry)) others) (yields tt) ⌝ }
+{
+    let long = bound.len() == checks::vertex_count(s) as usize;
+    if let Check::Refused(r) = check_lent(s, row, column, weight, both(long, others)) {
+        return Check::Refused(r);
+    }
+    if let Lowest::At(v) = checks::lowest_bound(bound) {
+        return checks::refused_item(Fault::Bound, v);
+    }
+    let kind = s.kind;
+    if let Kind::General = kind {
+        return checks::refused(Fault::NotBipartite, 0);
+    }
+    Check::Passed
 }
 
 // Sets every number of `out` to k.

@@ -1,3 +1,4 @@
 pub mod Search
 pub mod Tested
 pub mod Walk
+pub mod Entries

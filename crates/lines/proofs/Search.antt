@@ -6,24 +6,23 @@ use Prim.Native.Nat.{ℕ, _+_, _-_, _≤_, _<_}
 use native.Mathlib.Omega.{arith}
 use borrow.Author.Tests.{le-leb, lt-leb}
 use lib.ListN.{length, take, drop}
-use Rattle.layout.specs.Text.{lines, lineFits, blankLine, commentLine}
+use Rattle.layout.specs.Text.{lines, lineFits}
 use Rattle.text.specs.declared.Cursor.{Cursor}
 use Rattle.text.proofs.Lined.{Lined}
 use Rattle.text.proofs.Pieces.{lines-none}
 use Rattle.lines.specs.Found.{at, ended, long, nextData, skips, Inside}
 use Rattle.lines.specs.declared.Skipped.{Skipped}
-use Rattle.lines.specs.declared.Skipped.the-variants as Skipped
 
--- What is skipped, by the answers of the tests.
-module _ (what : Skipped) (l : List ℕ) where
-  pub skips-both : what ≡ Skipped.BlankAndComment → blankLine l ≡ true → true ≡ skips what l
-  skips-both is h = sym (ap (λ (b : Bool). b || commentLine l) h) ∙ ap (λ (k : Skipped). skips k l) (sym is)
+-- One of two tests holds, by the answers.
+pub or-first : (a b : Bool) → a ≡ true → true ≡ (a || b)
+or-first a b h = sym (ap (λ (x : Bool). x || b) h)
 
-  pub skips-comment : what ≡ Skipped.BlankAndComment → blankLine l ≡ false → (b : Bool) → b ≡ commentLine l → b ≡ skips what l
-  skips-comment is h b q = q ∙ sym (ap (λ (b : Bool). b || commentLine l) h) ∙ ap (λ (k : Skipped). skips k l) (sym is)
+pub or-second : (a b c : Bool) → a ≡ false → c ≡ b → c ≡ (a || b)
+or-second a b c h q = q ∙ sym (ap (λ (x : Bool). x || b) h)
 
-  pub skips-blank : what ≡ Skipped.Blank → (b : Bool) → b ≡ blankLine l → b ≡ skips what l
-  skips-blank is b q = q ∙ ap (λ (k : Skipped). skips k l) (sym is)
+-- What is skipped, by the answer of a test, given what it is in each case.
+pub skips-as : {what k : Skipped} (l : List ℕ) → what ≡ k → {b : Bool} → b ≡ skips k l → b ≡ skips what l
+skips-as l is q = q ∙ ap (λ (k : Skipped). skips k l) (sym is)
 
 module _ (skip : List ℕ → Bool) where
   data-nil : (k : ℕ) → nextData skip k [] ≡ ended k

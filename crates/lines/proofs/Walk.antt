@@ -77,12 +77,12 @@ later-found {s} {c} {more} F is = subst (LaterInside s c more) is (F .inside)
 
 module _ {H B R : Type 0} (L : Layout H B R) where
   -- What a line does in each state, where it counts; and what reading yields by what is met.
-  abbrev does : State H B → List ℕ → Step (State H B)
+  abbrev pub does : State H B → List ℕ → Step (State H B)
   does start l = sized (L .headerLine l)
   does (sizing h) l = begun (L .sizeLine h l)
   does (reading b) l = begun (L .laterLine b l)
 
-  abbrev met : (List ℕ → Step (State H B)) → Outcome R → Met → Outcome R
+  abbrev pub met : (List ℕ → Step (State H B)) → Outcome R → Met → Outcome R
   met f end (line k l ls) = onStep k (f l) (λ t. readLines L (k + 1) t ls)
   met f end done = end
   met f end (refused g k) = refuses g k
@@ -118,7 +118,7 @@ module _ {H B R : Type 0} (L : Layout H B R) where
       go true false ih = refl
       go false skipped ih = refl
 
-  read-later : (b : B) (m : Bool) → L .more b ≡ m → (k : ℕ) (ls : List (List ℕ)) →
+  pub read-later : (b : B) (m : Bool) → L .more b ≡ m → (k : ℕ) (ls : List (List ℕ)) →
       readLines L k (reading b) ls ≡ met (does (reading b)) (yields (L .result b)) (follows m (nextData blankLine k ls))
   unfolding readLines onLine atEnd nextData
   read-later b true q k [] = ap (λ (x : Bool). cond {A = Outcome R} x (refuses LaterLine k) (yields (L .result b))) q

@@ -5,6 +5,7 @@ use mathlib.Core.Bool.{Bool, false, cond, _||_}
 use mathlib.Core.List.{List, [], _∷_}
 use lib.ListN.{length, take, drop}
 use Rattle.layout.specs.Text.{lines, lineFits, blankLine, commentLine}
+use Rattle.layout.specs.AssignmentText.{skipped}
 use Rattle.text.specs.declared.Cursor.{Cursor}
 use Rattle.lines.specs.declared.Skipped.{Skipped}
 use Rattle.lines.specs.declared.Skipped.the-variants as Skipped
@@ -22,11 +23,13 @@ unfoldable pub nextData : (List ℕ → Bool) → ℕ → List (List ℕ) → Li
 nextData skip k [] = ended k
 nextData skip k (l ∷ ls) = cond (lineFits l) (cond (skip l) (nextData skip (k + 1) ls) (at k l ls)) (long k)
 
--- What is skipped before each line: nothing before the header; blank lines and comments before the size line; blank lines before a later line.
+-- What is skipped before each line: nothing before the header; blank lines and comments before the size line; blank lines before a later line; and in an
+-- assignment text blank lines and its own comments.
 abbrev pub skips : Skipped → List ℕ → Bool
 skips Skipped.Nothing l = false
 skips Skipped.BlankAndComment l = blankLine l || commentLine l
 skips Skipped.Blank l = blankLine l
+skips Skipped.BlankAndAssignmentComment l = skipped l
 
 -- The line from a to e.
 abbrev pub part : List ℕ → ℕ → ℕ → List ℕ

@@ -5,7 +5,9 @@ ghost use lib.ListN.{drop};
 ghost use mathlib.Core.List.{[], _∷_};
 ghost use Rattle.graph.specs.declared.Fault.the-variants.{TextLength, Sizes, LentLength};
 ghost use Rattle.graph.specs.Refusal.{yields, once, passing};
-ghost use Rattle.layout.specs.Text.{lines, textFits};
+ghost use mathlib.Core.Bool.{_||_};
+ghost use Rattle.layout.specs.Text.{lines, blankLine, startsWith, textFits};
+ghost use Rattle.layout.specs.AssignmentText.{skipped};
 ghost use Rattle.checks.specs.Checks.{checkSays};
 ghost use Rattle.lines.specs.Found.{nextData, skips, Reached, FoundAs};
 ghost use Rattle.lines.specs.Walk.{openedOf, OpenedAs, LaterAs, origin, headerMet, sizeMet, laterMet};
@@ -18,7 +20,7 @@ use text::Cursor;
 use text::Line;
 
 // The next line that counts and the cursor after it; or the lines end, or a line is over 1,024 bytes, with that line's number.
-enum FoundLine {
+pub enum FoundLine {
     At {
         start: usize,
         end: usize,
@@ -33,6 +35,17 @@ enum Skipped {
     Nothing,
     BlankAndComment,
     Blank,
+    BlankAndAssignmentComment,
+}
+
+// The line is blank, or begins with the byte b.
+fn is_blank_or_starts(line: &[u8], b: u8) -> bool
+    ensures { λ r. ⌜ r ≡ (blankLine (now (line .entry)) || startsWith b (now (line .entry))) ⌝ }
+{
+    if text::is_blank_line(line) {
+        return true;
+    }
+    text::starts_with(line, b)
 }
 
 // The line does not count.
@@ -41,13 +54,9 @@ fn is_skipped(what: Skipped, line: &[u8]) -> bool
 {
     match what {
         Skipped::Nothing => false,
-        Skipped::BlankAndComment => {
-            if text::is_blank_line(line) {
-                return true;
-            }
-            text::is_comment(line)
-        }
+        Skipped::BlankAndComment => is_blank_or_starts(line, b'%'),
         Skipped::Blank => text::is_blank_line(line),
+        Skipped::BlankAndAssignmentComment => is_blank_or_starts(line, b'c'),
     }
 }
 
@@ -75,6 +84,14 @@ fn find_line(s: &[u8], from: Cursor, what: Skipped) -> FoundLine
             }
         }
     }
+}
+
+// The next line of an assignment text that is neither blank nor a comment.
+pub fn entry_line(s: &[u8], c: Cursor) -> FoundLine
+    requires { ⌜ Reached (now s) c ⌝ }
+    ensures { λ r. ⌜ FoundAs (now (s .entry)) c (nextData skipped (c .line + 1) (lines (drop (c .at) (now (s .entry))))) r ⌝ }
+{
+    find_line(s, c, Skipped::BlankAndAssignmentComment)
 }
 
 // The header line or the size line, from its start to its end, and the cursor after it; or its refusal.

@@ -25,7 +25,7 @@ use Rattle.checks.specs.declared.Check.{Check}
 use Rattle.checks.specs.declared.Check.the-variants as Check
 use Rattle.checks.specs.Checks.{checkSays}
 use Rattle.measure.specs.Tables.{subgraphTests}
-use Rattle.measure.proofs.Tests.{part-refuses, part-passes}
+use Rattle.checks.proofs.Tests.{part-refuses, part-passes}
 
 module _ (g : Graph) (bound : List ℤ) (x : List ℕ) (P : Prices) where
   -- The lengths that are not the graph's.

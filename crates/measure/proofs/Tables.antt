@@ -33,7 +33,7 @@ use Rattle.checks.specs.Checks.{lowestSays, checkSays}
 use Rattle.checks.proofs.Counting.{counted-over}
 use Rattle.sets.specs.Words.{keepsRulesBy}
 use Rattle.measure.specs.Tables.{totalBy, measuresBy}
-use Rattle.measure.proofs.Tests.{each-same}
+use Rattle.checks.proofs.Tests.{each-same}
 use Rattle.measure.proofs.Shown.{priceTests}
 
 -- The seven numbers one by one; the last is the difference of the total and the weight in half points.

@@ -1,6 +1,7 @@
 // Reads a text of bounds (limits) or of prices.
 use checks::Check;
 use graph::Fault;
+use graph::GREATEST_BOUND;
 use graph::GREATEST_OLD_PRICE;
 use graph::GREATEST_PRICE;
 use graph::MOST_NUMBERS;
@@ -16,6 +17,7 @@ ghost use mathlib.Core.Path.{_≡_};
 ghost use mathlib.Core.List.{List, []};
 ghost use lib.IntN.{ℤ, pos};
 ghost use lib.ListN.{length, replicate};
+ghost use Rattle.integers.specs.Integer.{between};
 ghost use Rattle.graph.specs.Refusal.{told, reported, output};
 ghost use Rattle.layout.specs.Text.{words, natural, integer, oneWord, twoWords};
 ghost use Rattle.layout.specs.Lines.{reading};
@@ -61,13 +63,20 @@ fn greatest_price(rules: Rules) -> i32
     }
 }
 
+// The greatest number of a sort, by the rules.
+fn greatest(rules: Rules, what: Numbers) -> i32
+    ensures { λ r. ⌜ ((z : ℤ) → between (pos 0) r z ≡ inRange rules what z) ⌝ }
+{
+    match what {
+        Numbers::Bounds => GREATEST_BOUND,
+        Numbers::Prices => greatest_price(rules),
+    }
+}
+
 fn in_range(rules: Rules, what: Numbers, z: i32) -> bool
     ensures { λ r. ⌜ r ≡ inRange rules what z ⌝ }
 {
-    match what {
-        Numbers::Bounds => checks::bound_in_range(z),
-        Numbers::Prices => integers::in_range(z, 0, greatest_price(rules)),
-    }
+    integers::in_range(z, 0, greatest(rules, what))
 }
 
 fn outside(what: Numbers) -> Fault

@@ -38,7 +38,7 @@ pub record SoFar (g : Graph) : Type 0 where
   pub apart : (e : ℕ) → e < length (g .row) → joined g e (rowAt g e) (columnAt g e) ≡ false
 
 -- No edge yet.
-none-yet : (kind : Kind) (s : ℕ × ℕ × ℕ) → shapeInRange (shapeFrom kind s) ≡ true → SoFar (noEdges (shapeFrom kind s))
+pub none-yet : (kind : Kind) (s : ℕ × ℕ × ℕ) → shapeInRange (shapeFrom kind s) ≡ true → SoFar (noEdges (shapeFrom kind s))
 none-yet kind s h = record {
   sizes = h;
   columns = refl;
@@ -89,7 +89,7 @@ module _ (g : Graph) (S : SoFar g) (more : length (g .row) < g .edges) (r c : �
     }
 
 -- What a line of an edge, and the size line, lead to.
-line-more : (g : Graph) (o : Option (ℕ × ℕ × ℤ)) (d : Graph) → SoFar g → ltb (length (g .row)) (g .edges) ≡ true → graphEdge g o ≡ goes d → SoFar d
+pub line-more : (g : Graph) (o : Option (ℕ × ℕ × ℤ)) (d : Graph) → SoFar g → ltb (length (g .row)) (g .edges) ≡ true → graphEdge g o ≡ goes d → SoFar d
 line-more g o d S more h =
     let f = edge-read g o d h in
     let a = f .added in
@@ -101,10 +101,10 @@ size-more : (kind : Kind) (o : Option (ℕ × ℕ × ℕ)) (d : Graph) → graph
 size-more kind o d h = let s = sizes-read kind o d h in rw (s .is) at (none-yet kind (s .sizes) (s .range))
 
 -- Where no edge is to come, all are read, and the graph passes.
-all-came : (g : Graph) → SoFar g → ltb (length (g .row)) (g .edges) ≡ false → length (g .row) ≡ g .edges
+pub all-came : (g : Graph) → SoFar g → ltb (length (g .row)) (g .edges) ≡ false → length (g .row) ≡ g .edges
 all-came g S last = omega (arith, S .few, ltb-false (length (g .row)) (g .edges) last)
 
-so-passed : (g : Graph) → SoFar g → length (g .row) ≡ g .edges → Passed g
+pub so-passed : (g : Graph) → SoFar g → length (g .row) ≡ g .edges → Passed g
 so-passed g S all = record {
   sound = record {
     rowLong = all;
@@ -116,6 +116,10 @@ so-passed g S all = record {
   weights = λ e l. S .weight e (omega arith);
   apart = λ e l. S .apart e (omega arith);
 }
+
+-- What has passed passes the tests.
+pub passed-passing : {g : Graph} → Passed g → passing (once LentLength (graphLengths g) ∷ graphTests g) (yields tt) ≡ yields (tt {0})
+passed-passing {g} P = pass (once LentLength (graphLengths g) ∷ graphTests g) (λ k l. passed-lengths P, passed-tests P) (yields tt)
 
 -- ---- the whole text
 
@@ -143,4 +147,4 @@ module _ (rules : Rules) (field : Field) where
     text-passes = reads-pass graph-reads
 
     pub text-passes-tests : passing (once LentLength (graphLengths g) ∷ graphTests g) (yields tt) ≡ yields (tt {0})
-    text-passes-tests = pass (once LentLength (graphLengths g) ∷ graphTests g) (λ k l. passed-lengths text-passes, passed-tests text-passes) (yields tt)
+    text-passes-tests = passed-passing text-passes

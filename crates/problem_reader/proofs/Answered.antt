@@ -28,7 +28,7 @@ use Rattle.layout.specs.GraphText.{readGraph}
 use Rattle.layout.specs.NumberText.{readNumbers}
 use Rattle.layout.specs.Answers.{graphSays, numbersSay}
 use Rattle.lent.proofs.Filling.{filled-all}
-use Rattle.writer.proofs.Over.{drop-zeros}
+use Rattle.lent.proofs.Parts.{drop-zeros}
 use Rattle.report.specs.declared.Source.{Source}
 use Rattle.report.specs.declared.Source.the-variants as Source
 use Rattle.report.specs.Programs.{Run, has, ends, runReported, runOutput, cameFrom, andThen, Problem, readBounds, readProblem}

@@ -106,7 +106,7 @@ edgesLent = length {A = ℕ} (replicate 1024 0)
 abbrev pub weightsLent : ℕ
 weightsLent = length (replicate 1024 (pos 0))
 
-abbrev boundsLent : ℕ
+abbrev pub boundsLent : ℕ
 boundsLent = length (replicate 128 (pos 0))
 
 pub edges-lent : edgesLent ≡ 1024
@@ -118,22 +118,20 @@ weights-lent = length-replicate 1024 (pos 0)
 bounds-lent : boundsLent ≡ 128
 bounds-lent = length-replicate 128 (pos 0)
 
-pub graph-lent : (sheet : List ℕ) → readGraph edgesLent edgesLent weightsLent sheet ≡ readGraph 1024 1024 1024 sheet
-graph-lent sheet =
-    ap (λ k. readGraph k edgesLent weightsLent sheet) edges-lent
-    ∙ ap (λ k. readGraph 1024 k weightsLent sheet) edges-lent
-    ∙ ap (λ k. readGraph 1024 1024 k sheet) weights-lent
+-- A reader takes them as arrays of those lengths.
+pub lengths-lent : {A : Type 0} (reader : ℕ → ℕ → ℕ → ℕ → A) → reader edgesLent edgesLent weightsLent boundsLent ≡ reader 1024 1024 1024 128
+lengths-lent reader =
+    ap (λ k. reader k edgesLent weightsLent boundsLent) edges-lent
+    ∙ ap (λ k. reader 1024 k weightsLent boundsLent) edges-lent
+    ∙ ap (λ k. reader 1024 1024 k boundsLent) weights-lent
+    ∙ ap (reader 1024 1024 1024) bounds-lent
 
 abbrev lentProblem : List ℕ → List ℕ → Run Problem
 lentProblem sheet limits = readProblem edgesLent edgesLent weightsLent boundsLent sheet limits
 
 module _ (sheet limits : List ℕ) where
   lent-is : lentProblem sheet limits ≡ problemOf sheet limits
-  lent-is =
-      ap (λ k. readProblem k edgesLent weightsLent boundsLent sheet limits) edges-lent
-      ∙ ap (λ k. readProblem 1024 k weightsLent boundsLent sheet limits) edges-lent
-      ∙ ap (λ k. readProblem 1024 1024 k boundsLent sheet limits) weights-lent
-      ∙ ap (λ k. readProblem 1024 1024 1024 k sheet limits) bounds-lent
+  lent-is = lengths-lent (λ r c w b. readProblem r c w b sheet limits)
 
   -- The reader of a problem has answered a.
   module _ {a : ProblemAnswer} (says : problemSays a ≡ runReported problemShape (lentProblem sheet limits)) where

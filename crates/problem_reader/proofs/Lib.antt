@@ -1,3 +1,5 @@
 pub mod Kept
 pub mod Answered
 pub mod Lent
+pub mod Graphs
+pub mod Texts

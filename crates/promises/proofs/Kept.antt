@@ -15,7 +15,8 @@ use Rattle.integers.proofs.Sum.{sum-none}
 use Rattle.graph.specs.declared.Fault.{Fault}
 use Rattle.graph.specs.declared.Fault.the-variants.{TextLength, Header, SizeLine, Sizes, LaterLine, Ends, Weight, SameEnds}
 use Rattle.graph.specs.declared.Fault.the-variants.{LentLength, Bound, Mark, Degree, Price, OddSet, Uncovered, NotBipartite, Disagreement, WrongIndex}
-use Rattle.graph.specs.Limits.{mostEdges, mostNumbers, greatestPrice}
+use Rattle.graph.specs.declared.Fault.the-variants.{BoundNotOne, AssignmentLine, Sources}
+use Rattle.graph.specs.Limits.{mostVertices, mostEdges, mostNumbers, greatestPrice}
 use Rattle.graph.specs.Refusal.{numberOf, Outcome, yields, refuses, Told, told, refusedWith, Test, once, passing, output}
 use Rattle.graph.specs.Graph.{Graph, vertices, boundAt, upTo}
 use Rattle.graph.specs.Subgraph.{markAt, endsAt, degree, Feasible, weightOf}
@@ -34,6 +35,7 @@ use Rattle.layout.specs.GraphText.{graphLayout, graphReaderTests, readGraphBy, 
 use Rattle.layout.specs.NumberText.{numberLayout, numberReaderTests, readNumbersBy, readNumbers}
 use Rattle.layout.specs.SubgraphText.{subgraphText, subgraphLayout, subgraphReaderTests, readSubgraphBy, readSubgraph, writerTests, writeSubgraph}
 use Rattle.layout.specs.TidyText.{tidyText, tidyTests, tidyGraph}
+use Rattle.layout.specs.AssignmentText.{assignmentText, assignmentTests, writeAssignment, readArcs, assignmentReaderTests, readAssignment}
 use Rattle.dual.specs.Prices.{Prices}
 use Rattle.dual.specs.Measure.{measure, measures, measureTests}
 use Rattle.dual.specs.Solve.{solverTests, solve}
@@ -66,8 +68,11 @@ least-number Uncovered = lit≤ tt
 least-number NotBipartite = lit≤ tt
 least-number Disagreement = lit≤ tt
 least-number WrongIndex = lit≤ tt
+least-number BoundNotOne = lit≤ tt
+least-number AssignmentLine = lit≤ tt
+least-number Sources = lit≤ tt
 
-most-number : (f : Fault) → numberOf f ≤ 18
+most-number : (f : Fault) → numberOf f ≤ 21
 most-number TextLength = lit≤ tt
 most-number Header = lit≤ tt
 most-number SizeLine = lit≤ tt
@@ -86,6 +91,9 @@ most-number Uncovered = lit≤ tt
 most-number NotBipartite = lit≤ tt
 most-number Disagreement = lit≤ tt
 most-number WrongIndex = lit≤ tt
+most-number BoundNotOne = lit≤ tt
+most-number AssignmentLine = lit≤ tt
+most-number Sources = lit≤ tt
 
 pub listed : Listed
 listed = record { least = least-number; most = most-number }
@@ -131,8 +139,12 @@ subgraph-read g text p fits =
     ∙ passes-on (graphTests g) rest (w .1)
     ∙ once-passes TextLength (textFits text) [] (readText (subgraphLayout New g) text) fits
 
+assignment-read : (text : List ℕ) → textFits text ≡ true → readAssignment mostEdges mostEdges mostEdges mostVertices text ≡ readArcs text
+unfolding readAssignment
+assignment-read text fits = once-passes TextLength (textFits text) [] (readArcs text) fits
+
 pub read-as-defined : ReadAsDefined
-read-as-defined = record { graph = graph-read; numbers = numbers-read; subgraph = subgraph-read }
+read-as-defined = record { graph = graph-read; numbers = numbers-read; subgraph = subgraph-read; assignment = assignment-read }
 
 pub reads-back : ReadsBack
 reads-back = record { back = read-back; apart = written-apart }
@@ -208,6 +220,15 @@ index-tester-refuses : (g : Graph) (index : List ℕ) (i p : ℕ) → Refuses (t
 unfolding testIndex
 index-tester-refuses g index i p = (λ e. e, λ e. e)
 
+assignment-writer-refuses : (g : Graph) (bound : List ℤ) (n : ℕ) (i p : ℕ) → Refuses (writeAssignment g bound n) i p ↔ Refusing (assignmentTests g bound n) i p
+unfolding writeAssignment
+assignment-writer-refuses g bound n i p = tests-alone (assignmentTests g bound n) (yields (assignmentText g)) i p (assignmentText g) refl
+
+assignment-reader-refuses : (r c w b : ℕ) (text : List ℕ) (i p : ℕ) → Refuses (readAssignment r c w b text) i p ↔
+    (Refusing (assignmentReaderTests r c w b text) i p ⊎ (Passing (assignmentReaderTests r c w b text) × Refuses (readArcs text) i p))
+unfolding readAssignment
+assignment-reader-refuses r c w b text i p = refused-just (assignmentReaderTests r c w b text) (readArcs text) i p
+
 pub refused-just-where-listed : RefusedJustWhereListed
 refused-just-where-listed = record {
   solver = solver-refuses;
@@ -219,6 +240,8 @@ refused-just-where-listed = record {
   graphReader = graph-reader-refuses;
   numberReader = number-reader-refuses;
   subgraphReader = subgraph-reader-refuses;
+  assignmentWriter = assignment-writer-refuses;
+  assignmentReader = assignment-reader-refuses;
 }
 
 -- ---- Demand 3
@@ -237,10 +260,13 @@ solver-certifies g bound index lent x vertex edge workspace L e =
     }
 
 -- What has passed, as the laws of measuring take it.
-accepted-graph : {g : Graph} {bound : List ℤ} → Accepts g bound → Passed g
-accepted-graph {g} A =
-    let w = once-yields LentLength (graphLengths g) (graphTests g) (yields tt) tt (A .graph) in
+pub passing-passed : {g : Graph} → Passing (once LentLength (graphLengths g) ∷ graphTests g) → Passed g
+passing-passed {g} p =
+    let w = once-yields LentLength (graphLengths g) (graphTests g) (yields tt) tt p in
     graph-passed g (w .0) (passes (graphTests g) (yields tt) tt (w .1) .0)
+
+accepted-graph : {g : Graph} {bound : List ℤ} → Accepts g bound → Passed g
+accepted-graph A = passing-passed (A .graph)
 
 accepted-bounds : {g : Graph} {bound : List ℤ} → Accepts g bound → Bounded (vertices g) bound
 accepted-bounds {g} {bound} A = bounds-passed g bound (A .boundLong) (passes (boundTest g bound ∷ []) (yields tt) tt (A .bounds) .0)

@@ -3,3 +3,4 @@ pub mod Kept
 pub mod Rewritten
 pub mod Tidied
 pub mod HalfPoints
+pub mod Assignments

@@ -30,11 +30,11 @@ use Rattle.promises.specs.Promises.{ReadAs, TidyFormOf, AnySheetTidied, 
 
 -- ---- what the call and the program yield
 
-sheet-passed : (sheet : List ℕ) (g : Graph) → ReadAs sheet g → Passed g
+pub sheet-passed : (sheet : List ℕ) (g : Graph) → ReadAs sheet g → Passed g
 sheet-passed sheet g e = text-passes New Field.Integer sheet g (graph-read New Field.Integer sheet g .0 e .1)
 
 -- The call yields the tidy text of a graph that has passed, where its output has 32,768 bytes, and else nothing.
-passed-tidied : {g : Graph} → Passed g → tidyGraph g longestText ≡ yields (tidyText g)
+pub passed-tidied : {g : Graph} → Passed g → tidyGraph g longestText ≡ yields (tidyText g)
 unfolding tidyGraph
 passed-tidied {g} P =
     pass (tidyTests g longestText) (λ k l. passed-lengths P also eq-eqb longestText longestText refl, passed-tests P) (yields (tidyText g))
@@ -57,8 +57,9 @@ tidied-program sheet g e =
 tidy-back : {g : Graph} → Passed g → ReadAs (tidyText g) (tidied g)
 tidy-back P = graph-back (tidied-passed P)
 
-read-once : (text : List ℕ) (g h : Graph) → ReadAs text g → ReadAs text h → g ≡ h
-read-once text g h e f = let q : _≡_ {A = Outcome Graph} (yields g) (yields h) = sym e ∙ f in cc
+-- What a call yields is one result.
+pub yields-once : {A : Type 0} {o : Outcome A} {a b : A} → o ≡ yields a → o ≡ yields b → a ≡ b
+yields-once {A} {a = a} {b = b} e f = let q : _≡_ {A = Outcome A} (yields a) (yields b) = sym e ∙ f in cc
 
 -- ---- the promises
 
@@ -96,7 +97,7 @@ pub tidy-kept : TidyKept
 tidy-kept = record {
   call = λ g h n text e f.
       let t = tidied-call g n text e in
-      let same : tidied g ≡ h = read-once text (tidied g) h (subst (λ (x : List ℕ). ReadAs x (tidied g)) (t .2) (tidy-back (t .0))) f in
+      let same : tidied g ≡ h = yields-once (subst (λ (x : List ℕ). ReadAs x (tidied g)) (t .2) (tidy-back (t .0))) f in
       ap (λ (k : Graph). tidyGraph k n) (sym same)
       ∙ ap (tidyGraph (tidied g)) (t .1)
       ∙ passed-tidied (tidied-passed (t .0))
@@ -115,7 +116,7 @@ tidied-alike sheet other g h e f =
       λ same.
           let bytes : tidyText g ≡ tidyText h = sym texts ∙ same ∙ others in
           let graphs : tidied g ≡ tidied h =
-          read-once (tidyText h) (tidied g) (tidied h) (subst (λ (x : List ℕ). ReadAs x (tidied g)) bytes (tidy-back P)) (tidy-back Q) in
+          yields-once (subst (λ (x : List ℕ). ReadAs x (tidied g)) bytes (tidy-back P)) (tidy-back Q) in
           same-trans (subst (SameSheet g) graphs (tidied-same P)) (same-sym (tidied-same Q)),
       λ S. texts ∙ ap (λ (k : Graph). graphText k) (same-tidied S) ∙ sym others,
     )
@@ -123,6 +124,6 @@ tidied-alike sheet other g h e f =
 pub plans-kept : PlansKept
 plans-kept sheet plan g h e f =
     let P = sheet-passed sheet g e in
-    let same : tidied g ≡ h = read-once (tidyText g) (tidied g) h (tidy-back P) (ap (readGraph mostEdges mostEdges mostEdges) (sym (tidied-program sheet g e)) ∙ f) in
+    let same : tidied g ≡ h = yields-once (tidy-back P) (ap (readGraph mostEdges mostEdges mostEdges) (sym (tidied-program sheet g e)) ∙ f) in
     subst (λ (k : Graph). ReadAlike g k (readSubgraph g (g .edges) plan) (readSubgraph k (k .edges) plan)) same
     (plans-alike New P (tidied-passed P) (tidied-same P) plan)

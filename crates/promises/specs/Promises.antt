@@ -5,17 +5,18 @@ use Prim.Native.Nat.{ℕ, suc, _+_, _*_, _-_, _≤_, _<_}
 use mathlib.Core.Path.{_≡_}
 use mathlib.Core.Logic.{_≢_, _⊎_, _↔_}
 use mathlib.Core.Bool.{true}
-use mathlib.Core.List.{List, [], _∷_, map}
+use mathlib.Core.List.{List, [], _∷_, _++_, map}
 use mathlib.Core.Option.{some}
 use lib.IntN.{ℤ, pos, _-ℤ_, _*ℤ_}
 use lib.ListN.{length, getD, replicate, take, drop}
 use lib.Signed.{_≤ℤ_, leZ}
 use Rattle.integers.specs.Sum.{sumℤ, is}
+use Rattle.graph.specs.declared.Kind.the-variants.{Bipartite}
 use Rattle.graph.specs.declared.Fault.{Fault}
 use Rattle.graph.specs.declared.Fault.the-variants.{LentLength}
-use Rattle.graph.specs.Limits.{mostEdges, mostNumbers, mostSets, vertexWords, edgeWords, greatestSolverPrice, greatestOldPrice}
+use Rattle.graph.specs.Limits.{mostVertices, mostEdges, mostNumbers, mostSets, vertexWords, edgeWords, longestText, greatestSolverPrice, greatestOldPrice}
 use Rattle.graph.specs.Refusal.{numberOf, Outcome, yields, told, refusedWith, Test, once, passing, output}
-use Rattle.graph.specs.Graph.{Graph, vertices, firstEnd, secondEnd, weightAt, upTo, priceInRange}
+use Rattle.graph.specs.Graph.{Graph, vertices, firstEnd, secondEnd, weightAt, boundAt, upTo, priceInRange}
 use Rattle.graph.specs.Subgraph.{markAt, Feasible, Optimal, weightOf, lacks}
 use Rattle.graph.specs.Tests.{graphLengths, graphTests, boundTest}
 use Rattle.graph.specs.Index.{buildTests, buildIndex, indexTests, testIndex}
@@ -30,6 +31,7 @@ use Rattle.layout.specs.GraphText.{graphLayout, graphReaderTests, readGraphBy, 
 use Rattle.layout.specs.NumberText.{inRange, numberLayout, numberReaderTests, readNumbersBy, readNumbers}
 use Rattle.layout.specs.SubgraphText.{subgraphLayout, subgraphReaderTests, readSubgraphBy, readSubgraph, writerTests, writeSubgraph}
 use Rattle.layout.specs.TidyText.{tidyTests, tidyGraph}
+use Rattle.layout.specs.AssignmentText.{assignmentTests, writeAssignment, readArcs, assignmentReaderTests, readAssignment, unitBounds}
 use Rattle.layout.specs.Rewrite.{ending, wordAnew, lineAnew, linesAnew, textAnew, rewriteOutput}
 use Rattle.dual.specs.declared.Measures.{Measures}
 use Rattle.dual.specs.Prices.{Prices, vertexPrice, edgePrice, setPrice}
@@ -39,14 +41,14 @@ use Rattle.dual.specs.Measure.{measure, measureTests}
 use Rattle.dual.specs.Solve.{Lent, solverTests, solve, withoutSets, SolverPrice, Zero, Left}
 use Rattle.duality.specs.Meaning.{Meaning}
 use Rattle.tidying.specs.Alike.{SameSheet, Rising, ReadAlike}
-use Rattle.report.specs.Programs.{tidyOutput}
+use Rattle.report.specs.Programs.{lentFor, tidyOutput, toDimacsOutput, fromDimacsOutput}
 
 -- ---- Demand 1
 
 -- "Each call .. gives a listed refusal or a result": what a call yields is a result or a refusal, and each refusal has a number of the table.
 pub record Listed : Type 0 where
   pub least : (f : Fault) → 1 ≤ numberOf f
-  pub most : (f : Fault) → numberOf f ≤ 18
+  pub most : (f : Fault) → numberOf f ≤ 21
 
 -- A call refuses with this number of the table at this place. Its answer says the same, by its contract (layout, specs/Answers.antt, and dual).
 abbrev pub Refuses : {A : Type 0} → Outcome A → ℕ → ℕ → Type 0
@@ -70,13 +72,14 @@ abbrev pub Refusing : List Test → ℕ → ℕ → Type 0
 Refusing ts number place = Refuses (passing ts (yields (tt {0}))) number place
 
 -- "Texts are read as the Matrix Market layout defines": where what is lent is as long as it should be, and a text is not too long, it is read line by
--- line from the top, as its layout says.
+-- line from the top, as its layout says. So is an assignment text (request U7).
 pub record ReadAsDefined : Type 0 where
   pub graph : (text : List ℕ) → textFits text ≡ true → readGraph mostEdges mostEdges mostEdges text ≡ readText (graphLayout New Field.Integer) text
   pub numbers : (what : Numbers) (count : ℕ) (text : List ℕ) → upTo mostNumbers count ≡ true → textFits text ≡ true →
       readNumbers what count count text ≡ readText (numberLayout New what count) text
   pub subgraph : (g : Graph) (text : List ℕ) → Passing (once LentLength (graphLengths g) ∷ graphTests g) → textFits text ≡ true →
       readSubgraph g (g .edges) text ≡ readText (subgraphLayout New g) text
+  pub assignment : (text : List ℕ) → textFits text ≡ true → readAssignment mostEdges mostEdges mostEdges mostVertices text ≡ readArcs text
 
 -- "A written plan reads back as the same plan": what the writer yields reads back as the marks that were written, so no two subgraphs are written alike.
 pub record ReadsBack : Type 0 where
@@ -104,6 +107,9 @@ pub record RefusedJustWhereListed : Type 0 where
       (Refusing (numberReaderTests count n text) i p ⊎ (Passing (numberReaderTests count n text) × Refuses (readText (numberLayout New what count) text) i p))
   pub subgraphReader : (g : Graph) (n : ℕ) (text : List ℕ) (i p : ℕ) → Refuses (readSubgraph g n text) i p ↔
       (Refusing (subgraphReaderTests g n text) i p ⊎ (Passing (subgraphReaderTests g n text) × Refuses (readText (subgraphLayout New g) text) i p))
+  pub assignmentWriter : (g : Graph) (bound : List ℤ) (n : ℕ) (i p : ℕ) → Refuses (writeAssignment g bound n) i p ↔ Refusing (assignmentTests g bound n) i p
+  pub assignmentReader : (r c w b : ℕ) (text : List ℕ) (i p : ℕ) → Refuses (readAssignment r c w b text) i p ↔
+      (Refusing (assignmentReaderTests r c w b text) i p ⊎ (Passing (assignmentReaderTests r c w b text) × Refuses (readArcs text) i p))
 
 -- ---- Demand 3
 
@@ -329,3 +335,61 @@ pub record StoredPricesDoubled : Type 0 where
   pub ofEdges : (g : Graph) (x : List ℕ) (P : Prices) → edgeSlack g x (doubled P) ≡ halfPoints (edgeSlack g x P)
   pub ofCover : (g : Graph) (x : List ℕ) (P : Prices) →
       coverSlack g x (doubled P) ≡ halfPoints (sumℤ (g .edges) (λ e. pos (markAt x e) *ℤ (coverOf g P e -ℤ weightAt g e)))
+
+-- ---- Request U7
+
+-- A graph with its bounds goes out as a text, the output having n bytes; and a text that comes in yields a graph, whose bounds are then `unitBounds`.
+abbrev pub GoesOutAs : Graph → List ℤ → List ℕ → Type 0
+GoesOutAs g bound text = (n : ℕ) × (writeAssignment g bound n ≡ yields text)
+
+abbrev pub ComesInAs : List ℕ → Graph → Type 0
+ComesInAs text g = readAssignment mostEdges mostEdges mostEdges mostVertices text ≡ yields g
+
+-- "A sheet converted and brought back has the same kind, sizes and pairs in the same order": a graph that goes out comes back as the same graph, with the
+-- bounds that it went out with. So no two are written alike.
+pub record ThereAndBack : Type 0 where
+  pub graph : (g : Graph) (bound : List ℤ) (text : List ℕ) → GoesOutAs g bound text → ComesInAs text g
+  pub bounds : (g : Graph) (bound : List ℤ) (text : List ℕ) → GoesOutAs g bound text → unitBounds g ≡ bound
+  pub apart : (g h : Graph) (bound other : List ℤ) (text : List ℕ) → GoesOutAs g bound text → GoesOutAs h other text → (g ≡ h) × (bound ≡ other)
+
+-- "Only two-sided sheets with every limit 1 can go out": a text is yielded just where the graph passes its tests and is bipartite, each vertex has a bound
+-- and it is 1, and 32,768 bytes are lent.
+pub record CanGoOut (g : Graph) (bound : List ℤ) (n : ℕ) : Type 0 where
+  pub graph : Passing (once LentLength (graphLengths g) ∷ graphTests g)
+  pub twoSided : g .kind ≡ Bipartite
+  pub boundLong : length bound ≡ vertices g
+  pub ones : (v : ℕ) → v < vertices g → boundAt bound v ≡ pos 1
+  pub lent : n ≡ longestText
+
+abbrev pub OnlyUnitBounds : Type 0
+OnlyUnitBounds = (g : Graph) (bound : List ℤ) (n : ℕ) → ((text : List ℕ) × (writeAssignment g bound n ≡ yields text)) ↔ CanGoOut g bound n
+
+-- "Coming back sets every limit to 1, in an output of 128 numbers, 0 after fish n": what that output holds after a text has come in.
+abbrev pub boundsAfter : List ℕ → List ℤ
+boundsAfter text = output mostVertices (pos 0) unitBounds (readAssignment mostEdges mostEdges mostEdges mostVertices text)
+
+abbrev pub BoundsComeInAsOne : Type 0
+BoundsComeInAsOne =
+    (text : List ℕ) (g : Graph) → ComesInAs text g →
+    (vertices g ≤ mostVertices) × (boundsAfter text ≡ replicate (vertices g) (pos 1) ++ replicate (mostVertices - vertices g) (pos 0))
+
+-- A graph that comes in passes every test that calls make of a graph, and its bounds theirs, so that it can be solved with its index, tidied and sent out
+-- again.
+pub record ReadAssignmentsPass : Type 0 where
+  pub accepted : (text : List ℕ) (g : Graph) → ComesInAs text g → Accepts g (unitBounds g)
+  pub solved : (text : List ℕ) (g : Graph) → ComesInAs text g → (n : ℕ) (index : List ℕ) → buildIndex g n ≡ yields index →
+      solve g (unitBounds g) index (lentFor g) ≡ yields tt
+  pub tidied : (text : List ℕ) (g : Graph) → ComesInAs text g → (tidy : List ℕ) × (tidyGraph g longestText ≡ yields tidy)
+  pub sentOut : (text : List ℕ) (g : Graph) → ComesInAs text g → (out : List ℕ) × (writeAssignment g (unitBounds g) longestText ≡ yields out)
+
+-- "Convert a sheet to that layout and back": a two-sided sheet whose limits text gives every limit as 1 is written by `to_dimacs`, and of that text
+-- `from_dimacs` writes the sheet, its pairs in the sheet's own order.
+pub record UnitSheet (sheet limits : List ℕ) (g : Graph) : Type 0 where
+  pub read : ReadAs sheet g
+  pub twoSided : g .kind ≡ Bipartite
+  pub ones : readNumbers Numbers.Bounds (vertices g) (vertices g) limits ≡ yields (unitBounds g)
+
+pub record SheetsThereAndBack : Type 0 where
+  pub out : (sheet limits : List ℕ) (g : Graph) → UnitSheet sheet limits g → GoesOutAs g (unitBounds g) (toDimacsOutput sheet limits)
+  pub back : (sheet limits : List ℕ) (g : Graph) → UnitSheet sheet limits g → fromDimacsOutput (toDimacsOutput sheet limits) ≡ graphText g
+  pub read : (sheet limits : List ℕ) (g : Graph) → UnitSheet sheet limits g → ReadAs (fromDimacsOutput (toDimacsOutput sheet limits)) g

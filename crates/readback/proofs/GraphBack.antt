@@ -1,11 +1,11 @@
 -- What a graph is written as, the graph reader reads back: the same graph, its edges in the same order.
 use mathlib.Core.Path.{_≡_, refl, sym, ap, ap₂, _∙_}
-use mathlib.Core.Bool.{Bool, false, cond, _&&_}
+use mathlib.Core.Bool.{Bool, true, false, cond, _&&_}
 use mathlib.Core.List.{List, [], _∷_, _++_}
 use mathlib.Core.Option.{some}
 use Prim.Native.Nat.{ℕ, suc, _<_}
 use native.Mathlib.Omega.{arith}
-use lib.Dec.{eqb}
+use lib.Dec.{ltb, eqb}
 use lib.IntN.{ℤ, pos}
 use borrow.Author.Tests.{le-leb, lt-ltb, le-ltb}
 use lib.ListN.{length, take}
@@ -50,24 +50,32 @@ header-back General = refl
 -- ---- the edges so far
 
 -- The graph with its first n edges.
-abbrev firstEdges : Graph → ℕ → Graph
+abbrev pub firstEdges : Graph → ℕ → Graph
 firstEdges g n = graphOf (shapeOf g) (take n (g .row)) (take n (g .column)) (take n (g .weight))
 
 module _ {g : Graph} (P : Passed g) where
   S : Small g
   S = small g (P .sound)
 
-  edges-all : firstEdges g (g .edges) ≡ g
+  pub edges-all : firstEdges g (g .edges) ≡ g
   edges-all =
       ap₂ (λ (r c : List ℕ). graphOf (shapeOf g) r c (take (g .edges) (g .weight)))
       (take-all (g .edges) (g .row) (omega (arith, P .sound .rowLong))) (take-all (g .edges) (g .column) (omega (arith, P .sound .columnLong)))
       ∙ ap (graphOf (shapeOf g) (g .row) (g .column)) (take-all (g .edges) (g .weight) (omega (arith, P .weightLong)))
 
+  -- Then none is to come.
+  pub edges-came : ltb (length (take (g .edges) (g .row))) (g .edges) ≡ false
+  edges-came =
+      le-ltb (length (take (g .edges) (g .row))) (g .edges) (omega (arith, length-take-le (g .edges) (g .row) (omega (arith, P .sound .rowLong))))
+
   module _ (n : ℕ) (l : n < g .edges) where
     rows-so-far : length (take n (g .row)) ≡ n
     rows-so-far = length-take-le n (g .row) (omega (arith, P .sound .rowLong))
 
-    -- The next edge is added.
+    -- Another is to come.
+    pub edges-to-come : ltb (length (take n (g .row))) (g .edges) ≡ true
+    edges-to-come = lt-ltb (length (take n (g .row))) (g .edges) (omega (arith, rows-so-far))
+
     edges-next : withEdge (firstEdges g n) (rowAt g n) (columnAt g n) (weightAt g n) ≡ firstEdges g (suc n)
     edges-next =
         ap₂ (λ (r c : List ℕ). graphOf (shapeOf g) r c (take n (g .weight) ++ (weightAt g n ∷ [])))
@@ -82,6 +90,10 @@ module _ {g : Graph} (P : Passed g) where
         (λ k b. ap₂ (λ (r c : ℕ). eqb r (rowAt g n) && eqb c (columnAt g n)) (getD-take n (g .row) k 0 b) (getD-take n (g .column) k 0 b))
         ∙ P .apart n l
 
+    -- The next edge is added.
+    pub edge-next : graphEdge (firstEdges g n) (some (rowAt g n, columnAt g n, weightAt g n)) ≡ goes (firstEdges g (suc n))
+    edge-next = rw (P .sound .ends n l .test, P .weights n l, edges-apart) (ap goes edges-next)
+
     -- ---- what its line does
 
     edge-back : edgeOn New Field.Integer (words (edgeLine g n)) ≡ some (rowAt g n, columnAt g n, weightAt g n)
@@ -95,16 +107,14 @@ module _ {g : Graph} (P : Passed g) where
         )
 
     edge-read : graphEdge (firstEdges g n) (edgeOn New Field.Integer (words (edgeLine g n))) ≡ goes (firstEdges g (suc n))
-    edge-read =
-        ap (graphEdge (firstEdges g n)) edge-back
-        ∙ rw (P .sound .ends n l .test, P .weights n l, edges-apart) (ap goes edges-next)
+    edge-read = ap (graphEdge (firstEdges g n)) edge-back ∙ edge-next
 
     edge-step : onLine (graphLayout New Field.Integer) (reading (firstEdges g n)) (edgeLine g n) ≡ goes (reading (firstEdges g (suc n)))
     edge-step =
         on-reading (graphLayout New Field.Integer) (firstEdges g n) (edgeLine g n) (firstEdges g (suc n))
         (le-leb (length (edgeLine g n)) 1024 (omega (arith, graph-line-le P n l)))
         (ap noWords (edge-words (rowAt g n) (columnAt g n) (weightAt g n)))
-        (lt-ltb (length (take n (g .row))) (g .edges) (omega (arith, rows-so-far)))
+        edges-to-come
         edge-read
 
   -- ---- the header line and the size line
@@ -150,10 +160,10 @@ module _ {g : Graph} (P : Passed g) where
   all-read =
       reaches-text (graphLayout New Field.Integer) (g .kind) (firstEdges g 0) (firstEdges g (g .edges)) 1 (headerText Field.Integer (g .kind)) sizeText
       (edgeLines g (g .edges)) header-step size-step
-      (growing-reaches (lines-growing g) (graphLayout New Field.Integer) (g .edges) (λ n. reading (firstEdges g n))
+      (growing-reaches (lines-growing g) (readLines (graphLayout New Field.Integer)) (g .edges) (λ n. reading (firstEdges g n))
       (λ n l. reaches-one (graphLayout New Field.Integer) (reading (firstEdges g n)) (reading (firstEdges g (suc n))) (edgeLine g n) (edge-step n l))
       (g .edges) (omega arith))
-      (le-ltb (length (take (g .edges) (g .row))) (g .edges) (omega (arith, length-take-le (g .edges) (g .row) (omega (arith, P .sound .rowLong)))))
+      edges-came
       ∙ ap yields edges-all
 
   -- The text of a graph that has passed reads as that graph.

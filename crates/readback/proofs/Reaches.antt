@@ -9,9 +9,29 @@ use Rattle.graph.specs.Refusal.{yields}
 use Rattle.layout.specs.Text.{lineFits, blankLine, commentLine}
 use Rattle.layout.specs.Lines.{Step, goes, State, start, sizing, reading, Layout, onLine, atEnd, onStep, readLines}
 
-module _ {H B R : Type 0} (L : Layout H B R) where
-  -- ---- what one line does
+-- ---- several lines, whatever reads them
 
+module _ {S R : Type 0} (read : ℕ → S → List (List ℕ) → R) where
+  -- The lines ls lead from state s to state t: the rest is read from there, and k is the number of the first line.
+  abbrev pub Reaches : S → List (List ℕ) → S → Type 0
+  Reaches s ls t = (k : ℕ) (rest : List (List ℕ)) → read k s (ls ++ rest) ≡ read (k + length ls) t rest
+
+  pub reaches-none : (s : S) → Reaches s [] s
+  reaches-none s k rest = let e : k ≡ k + 0 = omega arith in ap (λ (j : ℕ). read j s rest) e
+
+  pub reaches-append : (s t u : S) (ks ls : List (List ℕ)) → Reaches s ks t → Reaches t ls u → Reaches s (ks ++ ls) u
+  reaches-append s t u ks ls f g k rest =
+      let e : k + length ks + length ls ≡ k + length (ks ++ ls) = omega (arith, length-append ks ls) in
+      ap (read k s) (append-assoc ks ls rest) ∙ f k (ls ++ rest) ∙ g (k + length ks) rest ∙ ap (λ (j : ℕ). read j u rest) e
+
+  -- Nothing follows them.
+  pub reaches-all : (s t : S) (ls : List (List ℕ)) → Reaches s ls t → (k : ℕ) → read k s ls ≡ read (k + length ls) t []
+  reaches-all s t ls f k = ap (read k s) (sym (append-nil ls)) ∙ f k []
+
+-- ---- the lines of a layout
+
+module _ {H B R : Type 0} (L : Layout H B R) where
+  -- What one line does.
   pub on-start : (l : List ℕ) (h : H) → lineFits l ≡ true → L .headerLine l ≡ goes h → onLine L start l ≡ goes (sizing h)
   unfolding onLine
   on-start l h fits is = rw (fits, is)
@@ -30,34 +50,20 @@ module _ {H B R : Type 0} (L : Layout H B R) where
   unfolding readLines atEnd
   at-end k b h = rw h
 
-  -- ---- several lines
-
-  -- The lines ls lead from state s to state t.
-  abbrev pub Reaches : State H B → List (List ℕ) → State H B → Type 0
-  Reaches s ls t = (k : ℕ) (rest : List (List ℕ)) → readLines L k s (ls ++ rest) ≡ readLines L (k + length ls) t rest
-
-  pub reaches-none : (s : State H B) → Reaches s [] s
-  reaches-none s k rest = let e : k ≡ k + 0 = omega arith in ap (λ (j : ℕ). readLines L j s rest) e
-
-  pub reaches-one : (s t : State H B) (l : List ℕ) → onLine L s l ≡ goes t → Reaches s (l ∷ []) t
+  pub reaches-one : (s t : State H B) (l : List ℕ) → onLine L s l ≡ goes t → Reaches (readLines L) s (l ∷ []) t
   unfolding readLines
   reaches-one s t l h k rest = ap (λ (o : Step (State H B)). onStep k o (λ u. readLines L (k + 1) u rest)) h
 
-  pub reaches-append : (s t u : State H B) (ks ls : List (List ℕ)) → Reaches s ks t → Reaches t ls u → Reaches s (ks ++ ls) u
-  reaches-append s t u ks ls f g k rest =
-      let e : k + length ks + length ls ≡ k + length (ks ++ ls) = omega (arith, length-append ks ls) in
-      ap (readLines L k s) (append-assoc ks ls rest) ∙ f k (ls ++ rest) ∙ g (k + length ks) rest ∙ ap (λ (j : ℕ). readLines L j u rest) e
-
   -- Lines that lead to a state where none is to come give its result.
-  pub reaches-end : (s : State H B) (ls : List (List ℕ)) (b : B) (k : ℕ) → Reaches s ls (reading b) → L .more b ≡ false
+  pub reaches-end : (s : State H B) (ls : List (List ℕ)) (b : B) (k : ℕ) → Reaches (readLines L) s ls (reading b) → L .more b ≡ false
       → readLines L k s ls ≡ yields (L .result b)
-  reaches-end s ls b k f h = ap (readLines L k s) (sym (append-nil ls)) ∙ f k [] ∙ at-end (k + length ls) b h
+  reaches-end s ls b k f h = reaches-all (readLines L) s (reading b) ls f k ∙ at-end (k + length ls) b h
 
   -- A whole text: its header line, its size line, and lines that lead to a state where none is to come.
   pub reaches-text : (h : H) (b c : B) (k : ℕ) (l n : List ℕ) (ls : List (List ℕ)) → onLine L start l ≡ goes (sizing h) → onLine L (sizing h) n ≡ goes (reading b)
-      → Reaches (reading b) ls (reading c) → L .more c ≡ false → readLines L k start (l ∷ n ∷ ls) ≡ yields (L .result c)
+      → Reaches (readLines L) (reading b) ls (reading c) → L .more c ≡ false → readLines L k start (l ∷ n ∷ ls) ≡ yields (L .result c)
   reaches-text h b c k l n ls header size rest last =
       reaches-end start (l ∷ n ∷ ls) c k
-      (reaches-append start (sizing h) (reading c) (l ∷ []) (n ∷ ls) (reaches-one start (sizing h) l header)
-      (reaches-append (sizing h) (reading b) (reading c) (n ∷ []) ls (reaches-one (sizing h) (reading b) n size) rest))
+      (reaches-append (readLines L) start (sizing h) (reading c) (l ∷ []) (n ∷ ls) (reaches-one start (sizing h) l header)
+      (reaches-append (readLines L) (sizing h) (reading b) (reading c) (n ∷ []) ls (reaches-one (sizing h) (reading b) n size) rest))
       last

@@ -199,11 +199,11 @@ module _ {g : Graph} {x : List ℕ} (a : Accepted g x) where
         let s : sum n (markAt x) ≡ sum n (markAt x) + markAt x n = omega arith in
         ap₂ (λ (k : ℕ) (ms : List ℕ). marksSoFar (countOf g x) k ms) s (marks-kept (g .edges) x (a .marks .long) n l e)
 
-    step-at : Reaches (subgraphLayout New g) (reading (stateAt g x n)) (linesAt g x n) (reading (stateAt g x (suc n)))
+    step-at : Reaches (readLines (subgraphLayout New g)) (reading (stateAt g x n)) (linesAt g x n) (reading (stateAt g x (suc n)))
     step-at = go (eqb (markAt x n) 1) refl
       where
         go : (b : Bool) → eqb (markAt x n) 1 ≡ b
-            → Reaches (subgraphLayout New g) (reading (stateAt g x n)) (cond b (spaced (decimal (rowAt g n) ∷ decimal (columnAt g n) ∷ []) ∷ []) [])
+            → Reaches (readLines (subgraphLayout New g)) (reading (stateAt g x n)) (cond b (spaced (decimal (rowAt g n) ∷ decimal (columnAt g n) ∷ []) ∷ []) [])
             (reading (stateAt g x (suc n)))
         go true is =
             reaches-one (subgraphLayout New g) (reading (stateAt g x n)) (reading (stateAt g x (suc n))) lineAt
@@ -211,10 +211,10 @@ module _ {g : Graph} {x : List ℕ} (a : Accepted g x) where
         go false is =
             let ne : markAt x n ≢ 1 = eqb-false (markAt x n) 1 is in
             let z : markAt x n ≡ 0 = omega (arith, a .marks .each n l) in
-            rw (unchosen-step z) (reaches-none (subgraphLayout New g) (reading (stateAt g x (suc n))))
+            rw (unchosen-step z) (reaches-none (readLines (subgraphLayout New g)) (reading (stateAt g x (suc n))))
 
-  lines-read : (n : ℕ) → n ≤ g .edges → Reaches (subgraphLayout New g) (reading (stateAt g x 0)) (chosenLines g x n) (reading (stateAt g x n))
-  lines-read = growing-reaches (chosen-growing g x) (subgraphLayout New g) (g .edges) (λ n. reading (stateAt g x n)) step-at
+  lines-read : (n : ℕ) → n ≤ g .edges → Reaches (readLines (subgraphLayout New g)) (reading (stateAt g x 0)) (chosenLines g x n) (reading (stateAt g x n))
+  lines-read = growing-reaches (chosen-growing g x) (readLines (subgraphLayout New g)) (g .edges) (λ n. reading (stateAt g x n)) step-at
 
   -- ---- the header line and the size line
 

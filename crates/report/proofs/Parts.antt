@@ -36,14 +36,15 @@ named-put name z f room p (q, k) =
 
 -- ---- FILE
 
-name-le : (s : Source) → length (nameOf s) ≤ 10
+name-le : (s : Source) → length (nameOf s) ≤ 11
 name-le Source.Sheet = omega arith
 name-le Source.Limits = omega arith
 name-le Source.Plan = omega arith
 name-le Source.Prices = omega arith
+name-le Source.Assignment = omega arith
 name-le Source.Input = omega arith
 
-pub source-put : (s : Source) {t : Source} {d l : List ℕ} {at e : ℕ} → s ≡ t → Puts d at (nameOf t) l e → Puts d at (nameOf s) l e × (e ≤ at + 10)
+pub source-put : (s : Source) {t : Source} {d l : List ℕ} {at e : ℕ} → s ≡ t → Puts d at (nameOf t) l e → Puts d at (nameOf s) l e × (e ≤ at + 11)
 source-put s {t} h p = (puts-same p (ap (λ (u : Source). nameOf u) (sym h)), omega (arith, p .place, name-le t))
 
 -- ---- words with one blank between them
@@ -104,7 +105,7 @@ pub refusal-put : (source : Source) (fault : Fault) (place n : ℕ) {d l₁ l₂
     n ≡ numberOf fault
     → Puts d 0 (bytes "refused ") l₁ a₁ → Puts l₁ a₁ (decimal n) l₂ a₂ × (a₂ ≤ a₁ + 20)
     → Puts l₂ a₂ (bytes " at ") l₃ a₃ → Puts l₃ a₃ (decimal place) l₄ a₄ × (a₄ ≤ a₃ + 20)
-    → Puts l₄ a₄ (bytes " in ") l₅ a₅ → Puts l₅ a₅ (nameOf source) l₆ a₆ × (a₆ ≤ a₅ + 10)
+    → Puts l₄ a₄ (bytes " in ") l₅ a₅ → Puts l₅ a₅ (nameOf source) l₆ a₆ × (a₆ ≤ a₅ + 11)
     → Puts d 0 (refusedLine source fault place) (set l₆ a₆ 10) (a₆ + 1)
 unfolding refusedLine
 refusal-put source fault place n {d} {l₂ = l₂} {l₄ = l₄} {l₆ = l₆} {a₂ = a₂} {a₄ = a₄} {a₆ = a₆} room is p₁ (p₂, k₂) p₃ (p₄, k₄) p₅ (p₆, k₆) =
@@ -114,7 +115,7 @@ refusal-put source fault place n {d} {l₂ = l₂} {l₄ = l₄} {l₆ = l₆} {
     next-pair (bytes "at") (decimal place) number (puts-next p₃ p₄ (omega (arith, number, p₃ .place))) (omega (arith, number, p₃ .place)) (omega arith) in
     rw (← is)
     (line-put
-    (next-pair (bytes "in") (nameOf source) {n = 66} at (puts-next p₅ p₆ (omega (arith, at, p₅ .place))) (omega (arith, at, p₅ .place))
+    (next-pair (bytes "in") (nameOf source) {n = 67} at (puts-next p₅ p₆ (omega (arith, at, p₅ .place))) (omega (arith, at, p₅ .place))
     (omega arith)) (omega arith))
 
 -- ---- what is left in a buffer that was cleared before

@@ -14,10 +14,11 @@ use Rattle.graph.specs.Graph.{Graph, vertices}
 use Rattle.graph.specs.Subgraph.{Optimal}
 use Rattle.graph.specs.Index.{indexNumbers, buildIndex}
 use Rattle.layout.specs.declared.Numbers.the-variants.{Bounds, Prices}
-use Rattle.layout.specs.GraphText.{readGraph}
+use Rattle.layout.specs.GraphText.{readGraph, graphText}
 use Rattle.layout.specs.NumberText.{readNumbers}
 use Rattle.layout.specs.SubgraphText.{readSubgraph, subgraphText}
 use Rattle.layout.specs.TidyText.{tidyGraph}
+use Rattle.layout.specs.AssignmentText.{writeAssignment, readAssignment}
 use Rattle.dual.specs.declared.Measures.{Measures}
 use Rattle.dual.specs.Measure.{measure}
 use Rattle.dual.specs.Solve.{Lent, solve, withoutSets}
@@ -124,6 +125,10 @@ pub record SolveComposed (sheet limits before after : List ℕ) (r : ℕ) : Type
 abbrev pub textRoom : ℕ → Bool
 textRoom n = leb longestText n
 
+-- `tidy`, `to_dimacs` and `from_dimacs` compose in a buffer of just 32,768 bytes.
+abbrev pub wholeTextRoom : ℕ → Bool
+wholeTextRoom n = eqb n longestText
+
 -- `tidy` reads sheet.mtx, and lends the call that tidies its graph 32,768 bytes.
 abbrev pub tidyRun : Graph → Run (List ℕ)
 tidyRun g = cameFrom Source.Input (tidyGraph g longestText)
@@ -132,6 +137,14 @@ tidyRun g = cameFrom Source.Input (tidyGraph g longestText)
 unfoldable pub tidyOutput : List ℕ → List ℕ
 tidyOutput sheet = written (λ text. text) (andThen (cameFrom Source.Sheet (readGraph mostEdges mostEdges mostEdges sheet)) tidyRun)
 
--- It composes in a buffer of just 32,768 bytes.
-abbrev pub tidyRoom : ℕ → Bool
-tidyRoom n = eqb n longestText
+-- `to_dimacs` lends the call that writes the assignment text of its problem as many.
+abbrev pub toDimacsRun : Problem → Run (List ℕ)
+toDimacsRun P = cameFrom Source.Input (writeAssignment (P .graph) (P .bound) longestText)
+
+-- What `to_dimacs` writes.
+unfoldable pub toDimacsOutput : List ℕ → List ℕ → List ℕ
+toDimacsOutput sheet limits = written (λ text. text) (andThen (problemOf sheet limits) toDimacsRun)
+
+-- What `from_dimacs` writes of the text of crosses.asn: the text of its graph, in the graph's own order.
+unfoldable pub fromDimacsOutput : List ℕ → List ℕ
+fromDimacsOutput crosses = written graphText (cameFrom Source.Assignment (readAssignment mostEdges mostEdges mostEdges mostVertices crosses))

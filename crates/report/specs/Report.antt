@@ -18,6 +18,7 @@ nameOf Source.Sheet = bytes "sheet.mtx"
 nameOf Source.Limits = bytes "limits.mtx"
 nameOf Source.Plan = bytes "plan.mtx"
 nameOf Source.Prices = bytes "prices.mtx"
+nameOf Source.Assignment = bytes "crosses.asn"
 nameOf Source.Input = bytes "input"
 
 -- A refusal: `refused NUMBER at PLACE in FILE`.

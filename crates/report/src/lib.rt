@@ -21,6 +21,7 @@ pub enum Source {
     Limits,
     Plan,
     Prices,
+    Assignment,
     Input,
 }
 
@@ -35,14 +36,15 @@ fn put_named(out: &mut [u8], at: usize, name: &[u8], z: i64) -> usize
 
 // Writes FILE from `at` on. The result is the place after it.
 fn put_source(out: &mut [u8], at: usize, source: Source) -> usize
-    requires { ⌜ at + 10 ≤ length (now out) ⌝ }
-    ensures { λ r. ⌜ Puts (now (out .entry)) at (nameOf source) (now (out .exit)) r × (r ≤ at + 10) ⌝ }
+    requires { ⌜ at + 11 ≤ length (now out) ⌝ }
+    ensures { λ r. ⌜ Puts (now (out .entry)) at (nameOf source) (now (out .exit)) r × (r ≤ at + 11) ⌝ }
 {
     match source {
         Source::Sheet => put_bytes(out, at, b"sheet.mtx"),
         Source::Limits => put_bytes(out, at, b"limits.mtx"),
         Source::Plan => put_bytes(out, at, b"plan.mtx"),
         Source::Prices => put_bytes(out, at, b"prices.mtx"),
+        Source::Assignment => put_bytes(out, at, b"crosses.asn"),
         Source::Input => put_bytes(out, at, b"input"),
     }
 }

@@ -1,10 +1,7 @@
 // The solver: the primal-dual method between the tests of what is lent and the prices that are handed out.
 use checks::Check;
-use checks::Lowest;
 use checks::both;
 use dual::SolveAnswer;
-use graph::Fault;
-use graph::Kind;
 use graph::Shape;
 use graph::WORKSPACE_NUMBERS;
 ghost use mathlib.Core.Path.{_≡_};
@@ -24,14 +21,16 @@ struct Lengths {
     workspace: usize,
 }
 
-// Whether what is lent besides the graph has just the lengths that the numbers of vertices and of edges give, and the workspace its own.
-fn others_match(s: Shape, bound: usize, index: usize, outputs: Lengths) -> bool
-    ensures { λ r. ⌜ r ≡ otherLengths s bound index (lentOf (outputs .chosen) (outputs .vertex) (outputs .edge) (outputs .workspace)) ⌝ }
+// Whether what is lent besides the graph and its bounds has just the lengths that the numbers of vertices and of edges give, and the workspace its own.
+fn others_match(s: Shape, index: usize, outputs: Lengths) -> bool
+    ensures { λ r. ⌜ r ≡ otherLengths s index (lentOf (outputs .chosen) (outputs .vertex) (outputs .edge) (outputs .workspace)) ⌝ }
 {
     let n = checks::vertex_count(s) as usize;
     let m = s.edges as usize;
-    let inputs = both(bound == n, index == index::index_numbers(s) as usize);
-    let marks = both(inputs, outputs.chosen == m);
+    let marks = both(
+        index == index::index_numbers(s) as usize,
+        outputs.chosen == m,
+    );
     let prices = both(both(marks, outputs.vertex == n), outputs.edge == m);
     both(prices, outputs.workspace == WORKSPACE_NUMBERS)
 }
@@ -48,16 +47,9 @@ fn tested(
 ) -> Check
     ensures { λ r. ⌜ checkSays r ≡ dual-solve.solve (graphOf s (now (row .entry)) (now (column .entry)) (now (weight .entry))) (now (bound .entry)) (now (index .entry)) (lentOf (outputs .chosen) (outputs .vertex) (outputs .edge) (outputs .workspace)) ⌝ }
 {
-    let others = others_match(s, bound.len(), index.len(), outputs);
-    if let Check::Refused(r) = lent::check_lent(s, row, column, weight, others) {
+    let others = others_match(s, index.len(), outputs);
+    if let Check::Refused(r) = lent::check_bipartite(s, row, column, weight, bound, others) {
         return Check::Refused(r);
-    }
-    if let Lowest::At(v) = checks::lowest_bound(bound) {
-        return checks::refused_item(Fault::Bound, v);
-    }
-    let kind = s.kind;
-    if let Kind::General = kind {
-        return checks::refused(Fault::NotBipartite, 0);
     }
     let last = index::check_places(s, row, column, index);
     last

@@ -8,8 +8,8 @@ use native.Mathlib.Omega.{arith}
 use lib.Dec.{eqb}
 use lib.ListN.{length, drop, getD}
 use Rattle.graph.proofs.Passing.{zero-one}
-use Rattle.layout.specs.Text.{bytes, blank, words, noWords, commentLine, same, lower, sameFolded, headerWords, begins, header}
-use Rattle.text.specs.Cursor.{firstWord, pastWord, within, follow, KeyTaken, kindTold}
+use Rattle.layout.specs.Text.{bytes, blank, words, noWords, startsWith, same, lower, sameFolded, headerWords, begins, header}
+use Rattle.text.specs.Cursor.{firstIs, FirstAt, firstWord, pastWord, within, follow, KeyTaken, kindTold}
 use Rattle.graph.specs.declared.Kind.{Kind}
 use Rattle.graph.specs.declared.Kind.the-variants.{Bipartite, General}
 use Rattle.text.specs.declared.Key.{Key}
@@ -17,13 +17,13 @@ use Rattle.text.specs.declared.Key.the-variants as Key
 use Rattle.text.proofs.Pieces.{Front, nothing, word, front}
 
 -- The first byte of a line.
-pub comment-empty : (l : List ℕ) → length l ≡ 0 → commentLine l ≡ false
-comment-empty [] h = refl
-comment-empty (x ∷ l) h = zero-one (omega arith)
+pub starts-empty : (b : ℕ) (l : List ℕ) → length l ≡ 0 → startsWith b l ≡ false
+starts-empty b [] h = refl
+starts-empty b (x ∷ l) h = zero-one (omega arith)
 
-pub comment-at : (l : List ℕ) → (length l ≡ 0 → ⊥) → eqb (getD l 0 0) 37 ≡ commentLine l
-comment-at [] ne = absurd (ne refl)
-comment-at (x ∷ l) ne = refl
+pub starts-at : (b : ℕ) (l : List ℕ) → (length l ≡ 0 → ⊥) → eqb (getD l 0 0) b ≡ startsWith b l
+starts-at b [] ne = absurd (ne refl)
+starts-at b (x ∷ l) ne = refl
 
 pub begins-empty : (l : List ℕ) → length l ≡ 0 → begins l ≡ false
 begins-empty [] h = refl
@@ -129,3 +129,39 @@ pub kind-told :
     → cond a (some Bipartite) (cond b (some General) none) ≡ kindTold field l
 kind-told field l a b e f =
     ap₂ (λ (x y : Bool). cond {A = Option Kind} x (some Bipartite) (cond {A = Option Kind} y (some General) none)) (sym e) (sym f)
+
+-- The first word of a line: what stands at its front, by the word that was found after the blanks.
+module _ (l k : List ℕ) (w : List ℕ) (is : w ≡ firstWord (words l)) where
+  pub first-missing : length w ≡ 0 → firstIs k (words l) ≡ false
+  first-missing e = go (front l 0)
+    where
+      go : Front l 0 → firstIs k (words l) ≡ false
+      go (nothing n) = ap (firstIs k) n
+      go (word x v n) =
+          let q : w ≡ x ∷ v = is ∙ ap firstWord n in
+          zero-one (omega (arith, ap length q))
+
+  pub first-other : same w k ≡ false → firstIs k (words l) ≡ false
+  first-other e = go (front l 0)
+    where
+      go : Front l 0 → firstIs k (words l) ≡ false
+      go (nothing n) = ap (firstIs k) n
+      go (word x v n) =
+          let q : w ≡ x ∷ v = is ∙ ap firstWord n in
+          ap (firstIs k) n ∙ ap (λ (u : List ℕ). same u k) (sym q) ∙ e
+
+  pub first-at : (length w ≡ 0 → ⊥) → same w k ≡ true → (e : ℕ) → e ≡ pastWord l 0 → e ≤ length l → FirstAt l k e
+  first-at ne same-k e past inside = go (front l 0)
+    where
+      go : Front l 0 → FirstAt l k e
+      go (nothing n) =
+          let q : w ≡ [] = is ∙ ap firstWord n in
+          absurd (ne (ap length q))
+      go (word x v n) =
+          let q : w ≡ x ∷ v = is ∙ ap firstWord n in
+          record {
+            inside = inside;
+            read = x ∷ v;
+            ahead = n ∙ ap (λ (j : ℕ). (x ∷ v) ∷ words (drop j l)) (sym past);
+            is = ap (λ (u : List ℕ). same u k) (sym q) ∙ same-k;
+          }

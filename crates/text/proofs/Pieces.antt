@@ -9,7 +9,7 @@ use borrow.Author.Tests.{eq-eqb, ne-eqb}
 use Rattle.graph.proofs.Passing.{zero-one}
 use lib.ListN.{length, take, drop, getD, drop-of-length-le, length-take, length-drop}
 use lib.Seq.{drop-cons, drop-drop}
-use Rattle.layout.specs.Text.{blank, newline, pieces, onFirst, nonEmpty, lines, words, noWords}
+use Rattle.layout.specs.Text.{blank, newline, pieces, onFirst, nonEmpty, lines, words, noWords, begins}
 use Rattle.text.proofs.Scans.{run-le}
 use Rattle.text.specs.Cursor.{run, inLine, inWord, past, wordAt, firstWord, pastWord}
 
@@ -183,3 +183,15 @@ module _ (l : List ℕ) (s e : ℕ) (le : s ≤ length l) (ee : e ≡ past inWor
   word-inside =
       let k : length (take (e - s) (drop s l)) ≤ length l - s = simp (length-take, length-drop) (omega arith) in
       omega arith
+
+-- The word that begins a line is its first.
+pub word-begins : (l : List ℕ) → begins l ≡ true → (w : List ℕ) → w ≡ wordAt l 0 → words l ≡ w ∷ words (drop (length w) l)
+word-begins [] h w is = zero-one (cc)
+word-begins (x ∷ xs) h w is =
+    let q : blank x ≡ false = go (blank x) h in
+    let k : length w ≡ run inWord (x ∷ xs) = ap length is ∙ simp length-take (omega (arith, run-le inWord (x ∷ xs))) in
+    words-first x xs q ∙ ap₂ (λ (v : List ℕ) (n : ℕ). v ∷ words (drop n (x ∷ xs))) (sym is) (sym k)
+  where
+    go : (b : Bool) → not b ≡ true → b ≡ false
+    go true e = zero-one (cc)
+    go false e = refl

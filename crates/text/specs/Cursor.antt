@@ -1,7 +1,7 @@
 -- What the functions on lines and words yield, where positions in a text or a line are part of it, and what their answers say.
 use Prim.Native.Nat.{ℕ, suc, _+_, _^_, _≤_, _<_}
 use mathlib.Core.Path.{_≡_}
-use mathlib.Core.Bool.{Bool, false, not, cond}
+use mathlib.Core.Bool.{Bool, true, false, not, cond}
 use mathlib.Core.List.{List, [], _∷_}
 use mathlib.Core.Option.{Option, none, some, Option·map}
 use lib.Dec.{ltb}
@@ -11,7 +11,7 @@ use Rattle.graph.specs.declared.Kind.{Kind}
 use Rattle.graph.specs.declared.Kind.the-variants.{Bipartite, General}
 use Rattle.layout.specs.declared.Rules.{Rules}
 use Rattle.layout.specs.declared.Rules.the-variants.{New, Old}
-use Rattle.layout.specs.Text.{bytes, newline, blank, words, padded, sameFolded, header}
+use Rattle.layout.specs.Text.{bytes, newline, blank, words, padded, same, sameFolded, header}
 use Rattle.text.specs.declared.Cursor.{Cursor}
 use Rattle.text.specs.declared.Line.{Line}
 use Rattle.text.specs.declared.Line.the-variants.{Part, Done}
@@ -126,6 +126,21 @@ follow l Key.Not ks = false
 pub record KeyTaken (l : List ℕ) (from : Key) (k : List ℕ) (r : Key) : Type 0 where
   pub inside : within l r
   pub rest : (ks : List (List ℕ)) → follow l r ks ≡ follow l from (k ∷ ks)
+
+-- The first word of a line is k, its case kept, and a place is after it; or it is another, or there is none.
+abbrev pub firstIs : List ℕ → List (List ℕ) → Bool
+firstIs k [] = false
+firstIs k (w ∷ ws) = same w k
+
+pub record FirstAt (l k : List ℕ) (at : ℕ) : Type 0 where
+  pub inside : at ≤ length l
+  pub read : List ℕ
+  pub ahead : words l ≡ read ∷ words (drop at l)
+  pub is : same read k ≡ true
+
+abbrev pub FirstWord : List ℕ → List ℕ → Key → Type 0
+FirstWord l k (Key.After at) = FirstAt l k at
+FirstWord l k Key.Not = firstIs k (words l) ≡ false
 
 -- The kind that a line tells: `%%MatrixMarket matrix coordinate`, a field, and `general` for a bipartite graph or `symmetric` for a general one.
 abbrev pub kindTold : List ℕ → List ℕ → Option Kind

@@ -5,8 +5,8 @@ ghost use mathlib.Core.Option.{Option·map};
 ghost use Prim.Native.Nat.{_+_, _≤_};
 ghost use lib.IntN.{pos, negℤ};
 ghost use lib.ListN.{length, drop};
-ghost use Rattle.layout.specs.Text.{blank, lower, words, numeral, padded, natural, aboveZero, afterPlus, afterMinus, integer, oneWord, twoWords, threeWords, noWords, blankLine, commentLine, same, begins, header};
-ghost use Rattle.text.specs.Cursor.{inLine, inWord, past, nextLine, wordAt, next, naturalSays, integerSays, nextNaturalSays, nextIntegerSays, pairSays, tripleSays, edgeLineSays, zeroRefused, NineDigits, within, follow, KeyTaken, kindSays, kindTold};
+ghost use Rattle.layout.specs.Text.{blank, lower, words, numeral, padded, natural, aboveZero, afterPlus, afterMinus, integer, oneWord, twoWords, threeWords, noWords, blankLine, startsWith, commentLine, same, begins, header};
+ghost use Rattle.text.specs.Cursor.{inLine, inWord, past, nextLine, wordAt, next, naturalSays, integerSays, nextNaturalSays, nextIntegerSays, pairSays, tripleSays, edgeLineSays, zeroRefused, NineDigits, within, follow, KeyTaken, FirstWord, kindSays, kindTold};
 use graph::Kind;
 use layout::Rules;
 
@@ -132,14 +132,21 @@ pub fn is_blank_line(line: &[u8]) -> bool
     no_words(line, 0)
 }
 
-// A line that begins with %.
-pub fn is_comment(line: &[u8]) -> bool
-    ensures { λ r. ⌜ r ≡ commentLine (now (line .entry)) ⌝ }
+// A line that begins with the byte b.
+pub fn starts_with(line: &[u8], b: u8) -> bool
+    ensures { λ r. ⌜ r ≡ startsWith b (now (line .entry)) ⌝ }
 {
     if line.len() == 0 {
         return false;
     }
-    line[0] == 37
+    line[0] == b
+}
+
+// A line that begins with %.
+pub fn is_comment(line: &[u8]) -> bool
+    ensures { λ r. ⌜ r ≡ commentLine (now (line .entry)) ⌝ }
+{
+    starts_with(line, 37)
 }
 
 // What a word is as a size or an index, and what it is as an integer.
@@ -378,6 +385,14 @@ pub fn one_integer(line: &[u8], rules: Rules) -> Integer
     c.last_integer(line, rules)
 }
 
+// A line of one size or index.
+pub fn one_natural(line: &[u8], rules: Rules) -> Natural
+    ensures { λ r. ⌜ naturalSays r ≡ oneWord (natural rules) (words (now (line .entry))) ⌝ }
+{
+    let c = Cursor { at: 0, line: 0 };
+    c.last_natural(line, rules)
+}
+
 pub enum Pair {
     Is(u32, u32),
     Bad,
@@ -475,7 +490,7 @@ fn to_lower(x: u8) -> u8
 }
 
 // The word w is k.
-fn same_word(w: &[u8], k: &[u8]) -> bool
+pub fn same_word(w: &[u8], k: &[u8]) -> bool
     ensures { λ r. ⌜ r ≡ same (now (w .entry)) (now (k .entry)) ⌝ }
 {
     if w.len() != k.len() {
@@ -508,8 +523,8 @@ fn same_folded(w: &[u8], k: &[u8]) -> bool
     true
 }
 
-// How far a header's words are found in a line: up to a place, or not.
-enum Key {
+// How far the words that are looked for are found in a line: up to a place, or not.
+pub enum Key {
     After(usize),
     Not,
 }
@@ -544,8 +559,23 @@ fn ended(line: &[u8], from: Key) -> bool
     no_words(line, at)
 }
 
+// The first word of a line is k, its case kept.
+pub fn first_word(line: &[u8], k: &[u8]) -> Key
+    ensures { λ r. ⌜ FirstWord (now (line .entry)) (now (k .entry)) r ⌝ }
+{
+    let start = skip_blanks(line, 0);
+    let w = word(line, start);
+    if w.len() == 0 {
+        return Key::Not;
+    }
+    if !same_word(w, k) {
+        return Key::Not;
+    }
+    Key::After(start + w.len())
+}
+
 // The first word begins the line.
-fn word_first(line: &[u8]) -> bool
+pub fn word_first(line: &[u8]) -> bool
     ensures { λ r. ⌜ r ≡ begins (now (line .entry)) ⌝ }
 {
     if line.len() == 0 {

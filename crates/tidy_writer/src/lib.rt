@@ -11,12 +11,12 @@ ghost use lib.ListN.{length};
 ghost use Rattle.graph.specs.Limits.{longestText};
 ghost use Rattle.graph.specs.Graph.{graphOf};
 ghost use Rattle.report.specs.Report.{Composed};
-ghost use Rattle.report.specs.Programs.{written, tidyRun, tidyOutput, tidyRoom};
+ghost use Rattle.report.specs.Programs.{written, tidyRun, tidyOutput, wholeTextRoom};
 
 // Writes the tidy text of a graph that has been read, or the call's refusal, to `out`, 0 after its end. The result is its length.
 fn tidy_read(s: Shape, row: &[u32], column: &[u32], weight: &[i32], out: &mut [u8]) -> usize
     requires { ⌜ length (now out) ≡ longestText ⌝ }
-    ensures { λ r. ⌜ Composed tidyRoom (written (λ text. text) (tidyRun (graphOf s (now (row .entry)) (now (column .entry)) (now (weight .entry))))) (now (out .entry)) (now (out .exit)) r ⌝ }
+    ensures { λ r. ⌜ Composed wholeTextRoom (written (λ text. text) (tidyRun (graphOf s (now (row .entry)) (now (column .entry)) (now (weight .entry))))) (now (out .entry)) (now (out .exit)) r ⌝ }
 {
     match tidier::tidy_graph(s, row, column, weight, out) {
         TextAnswer::Written(length) => length,
@@ -28,7 +28,7 @@ fn tidy_read(s: Shape, row: &[u32], column: &[u32], weight: &[i32], out: &mut [u
 // 32,768 bytes.
 pub fn tidy(sheet: &[u8], out: &mut [u8]) -> usize
     ensures inside { λ r. ⌜ r ≤ length (now (out .exit)) ⌝ }
-    ensures { λ r. ⌜ Composed tidyRoom (tidyOutput (now (sheet .entry))) (now (out .entry)) (now (out .exit)) r ⌝ }
+    ensures { λ r. ⌜ Composed wholeTextRoom (tidyOutput (now (sheet .entry))) (now (out .entry)) (now (out .exit)) r ⌝ }
 {
     if out.len() != LONGEST_TEXT {
         lent::clear_bytes(out);

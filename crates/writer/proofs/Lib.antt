@@ -1,6 +1,7 @@
 pub mod Over
 pub mod Put
 pub mod Signs
+pub mod Parts
 pub mod Writing
 pub mod Lines
 pub mod Subgraph

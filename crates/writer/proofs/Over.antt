@@ -1,12 +1,13 @@
 -- Laws of writing over a list: more bytes after those written, and a part that was lent from its middle.
 use mathlib.Core.Path.{_≡_, sym, ap, ap₂, _∙_}
 use mathlib.Core.List.{List, [], _∷_, _++_, append-assoc, append-nil}
-use Prim.Native.Nat.{ℕ, zero, suc, _+_, _-_, _≤_, _<_}
+use Prim.Native.Nat.{ℕ, suc, _+_, _-_, _≤_, _<_}
 use native.Mathlib.Nat.{zero-add, add-zero}
 use native.Mathlib.Omega.{arith}
 use borrow.Rule.Slice.PartMut.{putMid, postOf}
 use lib.ListN.{length, take, drop, getD, set, replicate, length-append, length-drop, drop-of-length-le, take-append-drop}
 use lib.Seq.{drop-cons, drop-drop, set-at, length-take-le, take-at, take-all, drop-append-add, append-snoc}
+use Rattle.lent.proofs.Parts.{drop-zeros}
 use Rattle.writer.specs.Written.{over, Puts, Written}
 
 module _ (d : List ℕ) (at : ℕ) (xs : List ℕ) where
@@ -131,11 +132,6 @@ puts-part d at {xs} p =
     few = omega (arith, length-drop at d)
 
 -- ---- written over zeros
-
-pub drop-zeros : {N : Type 0} (z : N) (k n : ℕ) → drop k (replicate n z) ≡ replicate (n - k) z
-drop-zeros z zero n = let e : n ≡ n - 0 = omega arith in ap (λ (j : ℕ). replicate j z) e
-drop-zeros z (suc k) zero = let e : 0 ≡ 0 - suc k = omega arith in ap (λ (j : ℕ). replicate j z) e
-drop-zeros z (suc k) (suc n) = let e : n - k ≡ suc n - suc k = omega arith in drop-zeros z k n ∙ ap (λ (j : ℕ). replicate j z) e
 
 -- Written at the start of n zeros, the text has zeros after its end.
 pub over-zeros : (n : ℕ) (xs : List ℕ) → over (replicate n 0) 0 xs ≡ xs ++ replicate (n - length xs) 0

@@ -2,7 +2,6 @@
 use mathlib.Core.Path.{_≡_, sym, ap, _∙_, subst}
 use mathlib.Core.List.{List, [], _++_}
 use Prim.Native.Nat.{ℕ, _+_, _-_, _≤_, _<_}
-use native.Mathlib.Numerals.{add-one}
 use native.Mathlib.Omega.{arith}
 use lib.IntN.{ℤ}
 use lib.ListN.{length, getD, replicate, length-append, length-replicate}
@@ -17,8 +16,8 @@ use Rattle.layout.specs.declared.Field.the-variants as Field
 use Rattle.layout.specs.SubgraphText.{chosenLines, subgraphText}
 use Rattle.readback.proofs.Accepted.{small}
 use Rattle.readback.proofs.Pieces.{unlines-append}
-use Rattle.readback.proofs.Growing.{growing-text}
-use Rattle.readback.proofs.Fits.{count-le, linesAt, chosen-growing, line-le, text-le}
+use Rattle.readback.proofs.Growing.{growing-none, growing-next}
+use Rattle.readback.proofs.Fits.{count-le, chosen-growing, line-le, text-le}
 use Rattle.writer.specs.Written.{Puts, Written, headLines, edgeLines}
 use Rattle.writer.proofs.Over.{puts-then, puts-same, zeros-written}
 use Rattle.writer.proofs.Lines.{head-le}
@@ -38,14 +37,6 @@ textFor row column x i n = edgeText (graphOf (i .0) row column (i .1)) x n
 abbrev pub EdgesWriting : List ℕ → List ℕ → List ℕ → List ℕ → ℕ → List ℕ → ℕ → ℕ → Type 0
 EdgesWriting row column x = Writing (textFor row column x) (length row) 8 32
 
-no-lines : (g : Graph) (x : List ℕ) → [] ≡ edgeText g x 0
-unfolding unlines
-no-lines g x = ap unlines (sym (chosen-growing g x .start))
-
-more-lines : (g : Graph) (x : List ℕ) (n : ℕ) → edgeText g x n ++ unlines (linesAt g x n) ≡ edgeText g x (n + 1)
-more-lines g x n =
-    sym (growing-text (chosen-growing g x) n) ∙ ap (edgeText g x) (sym (add-one n))
-
 module _ {s : Shape} {row column x : List ℕ} (S : Sound s row column) (M : MarksHold (s .edges) x) where
   pub few : length row ≤ 1024
   few = omega (arith, S .rowLong, S .sizes .few)
@@ -55,7 +46,7 @@ module _ {s : Shape} {row column x : List ℕ} (S : Sound s row column) (M : Mar
 
   pub edges-start : (d : List ℕ) (start : ℕ) → start + 8224 ≤ length d → EdgesWriting row column x d start d start 0
   edges-start d start h =
-      writing-starts (textFor row column x) (length row) 8 32 d start (λ i. no-lines (graphOf (i .0) row column (i .1)) x) (omega (arith, few))
+      writing-starts (textFor row column x) (length row) 8 32 d start (λ i. growing-none (chosen-growing (graphOf (i .0) row column (i .1)) x)) (omega (arith, few))
 
   module _ {d : List ℕ} {start : ℕ} {l : List ℕ} {at n : ℕ} (W : EdgesWriting row column x d start l at n) where
     pub line-room : n < length row → at + 32 ≤ length l
@@ -65,7 +56,7 @@ module _ {s : Shape} {row column x : List ℕ} (S : Sound s row column) (M : Mar
         → Puts l at (unlines (edgeLines (getD row n 0) (getD column n 0) (getD x n 0))) l′ at′ → EdgesWriting row column x d start l′ at′ (n + 1)
     edges-more lt =
         writing-more (textFor row column x) (length row) 8 32 W lt (line-le x (small (graphOf s row column []) S) n (omega (arith, S .rowLong)))
-        (λ i. more-lines (graphOf (i .0) row column (i .1)) x n)
+        (λ i. growing-next (chosen-growing (graphOf (i .0) row column (i .1)) x) n)
 
     pub edges-end : length row ≤ n → (w : List ℤ) → Puts d start (edgeText (graphOf s row column w) x (s .edges)) l at
     edges-end le w =

@@ -6,6 +6,8 @@ use native.Mathlib.Nat.{suc-mul, mul-le-mul-right}
 use native.Mathlib.Numerals.{add-one}
 use native.Mathlib.Omega.{arith}
 use lib.ListN.{length}
+use Rattle.layout.specs.Text.{unlines}
+use Rattle.readback.proofs.Growing.{Growing, growing-none, growing-next}
 use Rattle.writer.specs.Written.{Puts}
 use Rattle.writer.proofs.Over.{puts-none, puts-then, puts-same}
 
@@ -50,3 +52,23 @@ module _ {I : Type 0} (text : I → ℕ → List ℕ) (m k z : ℕ) where
 
     pub writing-ends : m ≤ n → (i : I) → Puts d start (text i m) l at
     writing-ends le i = let e : n ≡ m = omega (arith, W .within) in puts-same (W .puts i) (ap (text i) e)
+
+-- ---- lines that grow item by item, where the text depends on nothing else
+
+abbrev pub LinesWriting : (ℕ → List (List ℕ)) → ℕ → ℕ → ℕ → List ℕ → ℕ → List ℕ → ℕ → ℕ → Type 0
+LinesWriting upTo = Writing (λ (i : Unit {0}) n. unlines (upTo n))
+
+module _ {of upTo : ℕ → List (List ℕ)} (G : Growing of upTo) (m k z : ℕ) where
+  pub lines-start : (d : List ℕ) (start : ℕ) → start + m * k + z ≤ length d → LinesWriting upTo m k z d start d start 0
+  lines-start d start h = writing-starts (λ i n. unlines (upTo n)) m k z d start (λ i. growing-none G) h
+
+  module _ {d : List ℕ} {start : ℕ} {l : List ℕ} {at n : ℕ} (W : LinesWriting upTo m k z d start l at n) where
+    pub lines-room : n < m → at + k + z ≤ length l
+    lines-room lt = writing-room (λ i n. unlines (upTo n)) m k z W lt
+
+    pub lines-more : n < m → length (unlines (of n)) ≤ k → {l′ : List ℕ} {at′ : ℕ} → length l′ ≡ length l → Puts l at (unlines (of n)) l′ at′
+        → LinesWriting upTo m k z d start l′ at′ (n + 1)
+    lines-more lt few = writing-more (λ i n. unlines (upTo n)) m k z W lt few (λ i. growing-next G n)
+
+    pub lines-end : m ≤ n → Puts d start (unlines (upTo m)) l at
+    lines-end le = writing-ends (λ i n. unlines (upTo n)) m k z W le tt

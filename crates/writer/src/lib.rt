@@ -3,7 +3,7 @@ use graph::Kind;
 use graph::Shape;
 use layout::Field;
 ghost use mathlib.Core.Path.{_≡_};
-ghost use mathlib.Core.List.{List, [], _∷_};
+ghost use mathlib.Core.List.{List, [], _∷_, _++_};
 ghost use Prim.Native.Nat.{_+_, _≤_};
 ghost use lib.IntN.{ℤ};
 ghost use lib.ListN.{length, replicate};
@@ -32,14 +32,14 @@ pub fn put_number(out: &mut [u8], n: u64) -> usize
     k + 1
 }
 
-// A number without its sign. Before it is negated, z below 0 is raised by 1, so that the least number has a magnitude too.
-fn magnitude(z: i64) -> u64
-    ensures { λ r. ⌜ r ≡ up z + dn z ⌝ }
+// A number without its sign. Before it is negated, x below 0 is raised by 1, so that the least number has a magnitude too.
+fn magnitude(x: i64) -> u64
+    ensures { λ r. ⌜ r ≡ up x + dn x ⌝ }
 {
-    if z < 0 {
-        (-(z + 1)) as u64 + 1
+    if x < 0 {
+        (-(x + 1)) as u64 + 1
     } else {
-        z as u64
+        x as u64
     }
 }
 
@@ -49,6 +49,16 @@ pub fn put_natural(out: &mut [u8], at: usize, n: u64) -> usize
     ensures { λ r. ⌜ Puts (now (out .entry)) at (decimal n) (now (out .exit)) r × (r ≤ at + 20) ⌝ }
 {
     at + put_number(&mut out[at..], n)
+}
+
+// Writes the digits of n from `at` on, and one byte after them. The result is the place after it.
+pub fn put_field(out: &mut [u8], at: usize, n: u64, byte: u8) -> usize
+    requires { ⌜ at + 21 ≤ length (now out) ⌝ }
+    ensures { λ r. ⌜ Puts (now (out .entry)) at (decimal n ++ (byte ∷ [])) (now (out .exit)) r × (r ≤ at + 21) ⌝ }
+{
+    let end = put_natural(out, at, n);
+    out[end] = byte;
+    end + 1
 }
 
 // Writes z from `at` on, with - before a number below 0. The result is the place after it.

@@ -1,6 +1,6 @@
 //! The examples of the repository.
 
-use crate::files::{Entry, Folder, NAMES, OLD};
+use crate::files::{Entry, Folder, CROSSES, NAMES, OLD};
 use std::fs;
 use std::path::{Path, PathBuf};
 
@@ -9,6 +9,9 @@ const EXAMPLES: &str = "examples";
 
 /// The name under which an example has the tidy form of its sheet.
 pub const TIDIED: &str = "tidy.mtx";
+
+/// The name under which an example has crosses as a partner sent them.
+pub const PARTNER: &str = "partner.asn";
 
 fn path(name: &str) -> PathBuf {
     let root = Path::new(env!("CARGO_MANIFEST_DIR")).join("../..");
@@ -64,7 +67,16 @@ pub fn names() -> Vec<String> {
 
 /// The texts of all examples, by their paths: those that the programs read, and tidy sheets.
 pub fn texts() -> Vec<(String, Entry)> {
-    let files = [OLD, TIDIED].into_iter().chain(NAMES);
+    files_named([OLD, TIDIED].into_iter().chain(NAMES))
+}
+
+/// The assignments of all examples, by their paths.
+pub fn assignments() -> Vec<(String, Entry)> {
+    files_named([CROSSES, PARTNER].into_iter())
+}
+
+/// The files of these names in all examples, by their paths.
+fn files_named(files: impl Iterator<Item = &'static str>) -> Vec<(String, Entry)> {
     let paths = files.flat_map(|file| {
         let names = names_from(EXAMPLES, file).into_iter();
         names.map(move |name| format!("{name}/{file}"))

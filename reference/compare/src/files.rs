@@ -5,11 +5,14 @@ use std::fs;
 use std::io;
 use std::path::Path;
 
-/// The names of the files of `solve` and `mark`, in the order in which they are read; `tidy` reads the first.
+/// The names of the files of `solve` and `mark`, in the order in which they are read; `tidy` reads the first, `to_dimacs` the first two.
 pub const NAMES: [&str; 4] = ["sheet.mtx", "limits.mtx", "plan.mtx", "prices.mtx"];
 
 /// The name of the file of `rewrite`.
 pub const OLD: &str = "old.mtx";
+
+/// The name of the file of `from_dimacs`.
+pub const CROSSES: &str = "crosses.asn";
 
 /// What stands under a file's name.
 #[derive(Clone, Debug, PartialEq, Eq)]
@@ -63,6 +66,14 @@ impl Entry {
 
 /// What stands under each name of a folder.
 pub type Named<'a> = Vec<(&'static str, &'a Entry)>;
+
+/// The same, with what it holds.
+pub type Held = Vec<(&'static str, Entry)>;
+
+/// What stands under each name of what is held.
+pub fn named(held: &Held) -> Named<'_> {
+    held.iter().map(|(name, entry)| (*name, entry)).collect()
+}
 
 /// Makes a folder with these files; whatever stood there is removed.
 pub fn write_folder(path: &Path, files: &Named) -> io::Result<()> {

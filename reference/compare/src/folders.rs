@@ -19,7 +19,7 @@ struct Content {
 }
 
 /// A full graph of a kind.
-fn full(random: &mut Random, kind: Kind) -> Lent {
+pub fn full(random: &mut Random, kind: Kind) -> Lent {
     match kind {
         Kind::Bipartite => {
             let (rows, columns) = (32 + random.below(33) as u32, 32 + random.below(33) as u32);
@@ -165,24 +165,26 @@ impl Unusual {
 /// One file of so many has numbers in other forms.
 const OTHER_FORMS: u64 = 24;
 
+/// The text of a draft, now and then damaged, with numbers in other forms, or with something unusual in its place.
+pub fn any_entry(random: &mut Random, draft: Draft) -> Entry {
+    let lines = draft.with_other_forms(random, OTHER_FORMS).lines(random);
+    match random.below(36) {
+        0..=5 => Entry::Text(damaged(random, lines)),
+        6 => {
+            let text = joined(random, &lines);
+            random.pick(&UNUSUAL).entry(random, text)
+        }
+        _ => Entry::Text(joined(random, &lines)),
+    }
+}
+
 /// A folder in which now and then a number is wrong, a file is damaged or unusual, or two files are swapped.
 fn any(random: &mut Random, name: String) -> Folder {
     let mut content = Content::any(random);
     if random.below(5) == 0 {
         content.spoil(random);
     }
-    let mut entries = std::array::from_fn(|file| {
-        let draft = content.draft(file).with_other_forms(random, OTHER_FORMS);
-        let lines = draft.lines(random);
-        match random.below(36) {
-            0..=5 => Entry::Text(damaged(random, lines)),
-            6 => {
-                let text = joined(random, &lines);
-                random.pick(&UNUSUAL).entry(random, text)
-            }
-            _ => Entry::Text(joined(random, &lines)),
-        }
-    });
+    let mut entries = std::array::from_fn(|file| any_entry(random, content.draft(file)));
     if random.below(40) == 0 {
         entries.swap(random.below(4) as usize, random.below(4) as usize);
     }

@@ -42,6 +42,11 @@ fn shuffle<T>(random: &mut Random, items: &mut [T]) {
 }
 
 impl Lent {
+    /// The bipartite graph of two vertices, without edges.
+    pub fn empty() -> Lent {
+        Lent::right(&mut Random::new(0), Kind::Bipartite, 1, 1, 0)
+    }
+
     /// A right graph of a kind with these sizes and at most this many edges, in any order.
     pub fn right(random: &mut Random, kind: Kind, rows: u32, columns: u32, most: usize) -> Lent {
         let mut pairs: Vec<(u32, u32)> = Vec::new();
@@ -90,6 +95,14 @@ impl Lent {
         Lent::right(random, kind, side, side, edges)
     }
 
+    /// The graph of a kind with as many vertices as it may have and 1,024 edges, those with the most bytes by this count of rows and columns.
+    pub fn longest(random: &mut Random, kind: Kind, bytes: impl Fn(u32, u32) -> usize) -> Lent {
+        let whole = Lent::largest(random, kind, usize::MAX);
+        let mut places: Vec<_> = (0..whole.row.len()).collect();
+        places.sort_by_key(|&at| usize::MAX - bytes(whole.row[at], whole.column[at]));
+        whole.in_order(&places[..1024])
+    }
+
     /// A chain, for bounds of 1: each row but the last has edges to columns i and i + 1, the first worth a little more, and the last row has one to
     /// column 1. The last column may be left out; the row before the last then has one edge, worth next to nothing. One subgraph alone is optimal:
     /// the last row's edge and the second edge of every other row that has two. A solver that serves the rows in their order has each row's first edge chosen
@@ -123,6 +136,11 @@ impl Lent {
     /// A right graph of either kind: small, or now and then full.
     pub fn any(random: &mut Random) -> Lent {
         let kind = random.pick(&[Kind::Bipartite, Kind::General]);
+        Lent::any_of(random, kind)
+    }
+
+    /// A right graph of a kind: small, or now and then full.
+    pub fn any_of(random: &mut Random, kind: Kind) -> Lent {
         let full = random.below(100) == 0;
         let side = match (kind, full) {
             (Kind::Bipartite, true) => 64,
@@ -311,6 +329,11 @@ pub fn extreme_graphs(random: &mut Random) -> Vec<Lent> {
         twice,
     ]);
     graphs
+}
+
+/// How many digits a number has.
+pub fn digits(number: u32) -> usize {
+    number.to_string().len()
 }
 
 /// A lent length: mostly the right one.

@@ -1,5 +1,8 @@
 //! The proved calls and the built programs beside the separately written program.
 
+pub mod assignment_texts;
+pub mod assignments;
+pub mod dimacs_runs;
 pub mod examples;
 pub mod files;
 pub mod folders;
@@ -8,6 +11,7 @@ pub mod graphs;
 pub mod guard;
 pub mod indexes;
 pub mod lemon;
+pub mod lending;
 pub mod measures;
 pub mod noise;
 pub mod old_situations;

@@ -73,6 +73,36 @@ extern "C" {
         out_len: usize,
         answer: *mut u64,
     ) -> u32;
+    fn jangoripu_write_assignment(
+        general: bool,
+        rows: u32,
+        columns: u32,
+        edges: u32,
+        row: *const u32,
+        row_len: usize,
+        column: *const u32,
+        column_len: usize,
+        weight: *const i32,
+        weight_len: usize,
+        bound: *const i32,
+        bound_len: usize,
+        out: *mut u8,
+        out_len: usize,
+        answer: *mut u64,
+    ) -> u32;
+    fn jangoripu_read_assignment(
+        text: *const u8,
+        text_len: usize,
+        row: *mut u32,
+        row_len: usize,
+        column: *mut u32,
+        column_len: usize,
+        weight: *mut i32,
+        weight_len: usize,
+        bound: *mut i32,
+        bound_len: usize,
+        answer: *mut u64,
+    ) -> u32;
     fn jangoripu_build_index(
         general: bool,
         rows: u32,
@@ -180,6 +210,25 @@ fn written(number: u32, [place, length]: [u64; 2]) -> Result<usize, Refusal> {
     answered(number, place, length as usize)
 }
 
+/// What a reader of graphs answers: a graph's head, or a refusal and nothing else.
+fn head_told(number: u32, answer: [u64; 5]) -> Result<Head, Refusal> {
+    let kind = match answer[1] {
+        0 => Kind::Bipartite,
+        1 => Kind::General,
+        other => panic!("a kind of {other}"),
+    };
+    if number != 0 {
+        assert_eq!(answer[1..], [0; 4], "after a refusal nothing is told");
+    }
+    let head = Head {
+        kind,
+        rows: answer[2] as u32,
+        columns: answer[3] as u32,
+        edges: answer[4] as u32,
+    };
+    answered(number, answer[0], head)
+}
+
 /// The graph reader.
 pub fn read_graph(
     text: &[u8],
@@ -201,21 +250,34 @@ pub fn read_graph(
             answer.as_mut_ptr(),
         )
     };
-    let kind = match answer[1] {
-        0 => Kind::Bipartite,
-        1 => Kind::General,
-        other => panic!("a kind of {other}"),
+    head_told(number, answer)
+}
+
+/// The assignment reader.
+pub fn read_assignment(
+    text: &[u8],
+    row: &mut [u32],
+    column: &mut [u32],
+    weight: &mut [i32],
+    bound: &mut [i32],
+) -> Result<Head, Refusal> {
+    let mut answer = [7u64; 5];
+    let number = unsafe {
+        jangoripu_read_assignment(
+            text.as_ptr(),
+            text.len(),
+            row.as_mut_ptr(),
+            row.len(),
+            column.as_mut_ptr(),
+            column.len(),
+            weight.as_mut_ptr(),
+            weight.len(),
+            bound.as_mut_ptr(),
+            bound.len(),
+            answer.as_mut_ptr(),
+        )
     };
-    if number != 0 {
-        assert_eq!(answer[1..], [0; 4], "after a refusal nothing is told");
-    }
-    let head = Head {
-        kind,
-        rows: answer[2] as u32,
-        columns: answer[3] as u32,
-        edges: answer[4] as u32,
-    };
-    answered(number, answer[0], head)
+    head_told(number, answer)
 }
 
 /// The number reader.
@@ -300,6 +362,31 @@ pub fn tidy_graph(graph: &Graph, out: &mut [u8]) -> Result<usize, Refusal> {
             graph.column.len(),
             graph.weight.as_ptr(),
             graph.weight.len(),
+            out.as_mut_ptr(),
+            out.len(),
+            answer.as_mut_ptr(),
+        )
+    };
+    written(number, answer)
+}
+
+/// The assignment writer.
+pub fn write_assignment(graph: &Graph, bound: &[i32], out: &mut [u8]) -> Result<usize, Refusal> {
+    let mut answer = [7u64; 2];
+    let number = unsafe {
+        jangoripu_write_assignment(
+            is_general(graph.kind),
+            graph.rows,
+            graph.columns,
+            graph.edges,
+            graph.row.as_ptr(),
+            graph.row.len(),
+            graph.column.as_ptr(),
+            graph.column.len(),
+            graph.weight.as_ptr(),
+            graph.weight.len(),
+            bound.as_ptr(),
+            bound.len(),
             out.as_mut_ptr(),
             out.len(),
             answer.as_mut_ptr(),

@@ -11,7 +11,7 @@ use std::fmt::Debug;
 /// What a reader gave for a text in both programs.
 pub struct Read<T> {
     pub expected: Result<T, Refusal>,
-    proved: Result<T, Refusal>,
+    pub proved: Result<T, Refusal>,
     /// Whether answers and outputs are the same, and nothing else was written.
     pub agreed: bool,
 }

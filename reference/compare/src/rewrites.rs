@@ -1,6 +1,6 @@
 //! The built program `rewrite`, on many texts, beside the separately written program; what it wrote is rewritten again, and read by the proved readers.
 
-use crate::files::{Entry, OLD};
+use crate::files::{Entry, Held, Named, OLD};
 use crate::old_situations::{demanded, notes};
 use crate::old_texts::{all, OldText};
 use crate::readings::{Readings, NEW_RULES, OLD_RULES, PROVED};
@@ -65,14 +65,17 @@ impl<'a> Rewriting<'a> {
 
 impl Twice for Rewriting<'_> {
     const PROGRAM: &'static str = REWRITE;
-    const FILE: &'static str = OLD;
 
     fn name(&self) -> &str {
         &self.old.name
     }
 
-    fn entry(&self) -> &Entry {
-        &self.old.entry
+    fn files(&self) -> Named<'_> {
+        vec![(OLD, &self.old.entry)]
+    }
+
+    fn files_again(written: Vec<u8>) -> Held {
+        vec![(OLD, Entry::Text(written))]
     }
 
     fn notes(&self) -> &[Note] {

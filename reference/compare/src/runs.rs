@@ -20,6 +20,15 @@ pub const REWRITE: &str = "rewrite";
 /// The name of the program that writes the tidy text of a sheet.
 pub const TIDY: &str = "tidy";
 
+/// The name of the program that writes a sheet as an assignment.
+pub const TO_DIMACS: &str = "to_dimacs";
+
+/// The name of the program that writes an assignment as a sheet.
+pub const FROM_DIMACS: &str = "from_dimacs";
+
+/// The names of all programs.
+const PROGRAMS: [&str; 6] = ["solve", "mark", REWRITE, TIDY, TO_DIMACS, FROM_DIMACS];
+
 /// One of the two programs on a graph and its bounds.
 #[derive(Clone, Copy, Debug, PartialEq, Eq)]
 pub enum Program {
@@ -119,7 +128,7 @@ pub struct Built {
 impl Built {
     /// The programs in a folder; an error if one is not there.
     pub fn new(folder: &Path, valgrind: bool) -> io::Result<Built> {
-        for program in [Program::Solve.name(), Program::Mark.name(), REWRITE, TIDY] {
+        for program in PROGRAMS {
             let path = folder.join(program);
             fs::metadata(&path).map_err(|error| about(path.display(), error))?;
         }

@@ -45,11 +45,30 @@ const TOKENS: &[&str] = &[
     "x7",
     "%",
 ];
+
+/// What a damaged text of a layout may get: words, and lines.
+pub struct Stock {
+    pub tokens: &'static [&'static str],
+    pub comment: &'static str,
+    /// A comment, but for the blank before it.
+    pub no_comment: &'static str,
+    /// A line that may be surplus.
+    pub later: &'static str,
+}
+
+/// What Matrix Market texts may get.
+const MATRIX_MARKET: Stock = Stock {
+    tokens: TOKENS,
+    comment: "% a comment",
+    no_comment: " % no comment",
+    later: "1 1 1",
+};
+
 const SYMMETRIC: &str = "symmetric";
 const GENERAL: &str = "general";
 
-/// Words with blanks between them, and perhaps around them.
-fn spaced(random: &mut Random, words: &[String], leading: bool) -> Vec<u8> {
+/// Words with blanks between them, and perhaps after them, or around them.
+pub fn spaced(random: &mut Random, words: &[String], leading: bool) -> Vec<u8> {
     let mut line = Vec::new();
     let blanks = |random: &mut Random, line: &mut Vec<u8>, least: u64| {
         let more = if random.below(8) == 0 {
@@ -260,7 +279,7 @@ pub fn joined(random: &mut Random, lines: &[Vec<u8>]) -> Vec<u8> {
     text
 }
 
-fn damage_line(random: &mut Random, lines: &mut Vec<Vec<u8>>) {
+fn damage_line(random: &mut Random, stock: &Stock, lines: &mut Vec<Vec<u8>>) {
     let at = random.below(lines.len() as u64) as usize;
     let other = random.below(lines.len() as u64) as usize;
     match random.below(9) {
@@ -268,21 +287,21 @@ fn damage_line(random: &mut Random, lines: &mut Vec<Vec<u8>>) {
         1 => lines.insert(at, lines[other].clone()),
         2 => lines.swap(at, other),
         3 => lines.insert(at, Vec::new()),
-        4 => lines.insert(at, b"% a comment".to_vec()),
-        5 => lines.insert(at, b" % no comment".to_vec()),
-        6 => lines.push(b"1 1 1".to_vec()),
+        4 => lines.insert(at, stock.comment.into()),
+        5 => lines.insert(at, stock.no_comment.into()),
+        6 => lines.push(stock.later.into()),
         7 => lines.push(b"\t ".to_vec()),
         _ => lines.truncate(at),
     }
 }
 
-fn damage_token(random: &mut Random, line: &mut Vec<u8>) {
+fn damage_token(random: &mut Random, stock: &Stock, line: &mut Vec<u8>) {
     let words: Vec<Vec<u8>> = line
         .split(|&b| b == b' ' || b == b'\t')
         .map(|w| w.to_vec())
         .collect();
     let mut words: Vec<_> = words.into_iter().filter(|w| !w.is_empty()).collect();
-    let token = random.pick(TOKENS).as_bytes().to_vec();
+    let token = random.pick(stock.tokens).as_bytes().to_vec();
     if words.is_empty() {
         *line = token;
         return;
@@ -338,16 +357,21 @@ pub fn padded(random: &mut Random, mut text: Vec<u8>, length: usize) -> Vec<u8> 
     text
 }
 
+/// The Matrix Market text of some lines, damaged now and then.
+pub fn damaged(random: &mut Random, lines: Vec<Vec<u8>>) -> Vec<u8> {
+    damaged_with(random, &MATRIX_MARKET, lines)
+}
+
 /// The text of some lines, damaged now and then.
-pub fn damaged(random: &mut Random, mut lines: Vec<Vec<u8>>) -> Vec<u8> {
+pub fn damaged_with(random: &mut Random, stock: &Stock, mut lines: Vec<Vec<u8>>) -> Vec<u8> {
     for _ in 0..random.below(3) {
         if lines.is_empty() {
             break;
         }
         let at = random.below(lines.len() as u64) as usize;
         match random.below(8) {
-            0 | 1 => damage_line(random, &mut lines),
-            2 | 3 | 4 => damage_token(random, &mut lines[at]),
+            0 | 1 => damage_line(random, stock, &mut lines),
+            2 | 3 | 4 => damage_token(random, stock, &mut lines[at]),
             5 => stretch(random, &mut lines[at]),
             _ => {}
         }

@@ -1,7 +1,7 @@
 //! Tidying a graph, on graphs of both kinds in any order; and what a tidy text says, by the proved calls joined.
 
-use crate::graphs::{extreme_graphs, weight, Lent};
-use crate::guard::Guarded;
+use crate::graphs::{digits, weight, Lent};
+use crate::lending::{lengths, lent_of, wrong_length, wrong_outputs, wrong_slices, Written, SORTS};
 use crate::proved;
 use crate::readers::subgraph_text;
 use crate::situations::{other, sort_of_graph};
@@ -15,12 +15,9 @@ pub type Tidying = fn(&Graph, &mut [u8]) -> Result<usize, Refusal>;
 
 /// The graph of 1,024 edges with the longest text, of a kind.
 fn longest(random: &mut Random, kind: Kind) -> Lent {
-    let mut lent = Lent::largest(random, kind, usize::MAX);
+    let mut lent = Lent::longest(random, kind, |row, column| digits(row) + digits(column));
     lent.weight.fill(-1_000_000);
-    let digits = |number: u32| number.to_string().len();
-    let mut places: Vec<_> = (0..lent.row.len()).collect();
-    places.sort_by_key(|&at| usize::MAX - digits(lent.row[at]) - digits(lent.column[at]));
-    lent.in_order(&places[..1024])
+    lent
 }
 
 /// A right graph of either kind: small, or now and then one with 128 vertices and 1,024 edges.
@@ -35,150 +32,6 @@ fn any(random: &mut Random) -> Lent {
     lent
 }
 
-/// What is lent to be tidied.
-#[derive(Clone, Copy, Debug, PartialEq, Eq)]
-enum Sort {
-    Right,
-    /// One number or length is wrong.
-    Spoilt,
-    /// Several numbers are wrong, or a length too.
-    Often,
-    /// The length of one of the three slices is wrong.
-    Slice,
-    /// The length of the output is wrong.
-    Output,
-    /// Sizes are at the ends of their ranges or beyond them, or an edge is too many.
-    Extreme,
-}
-
-const SORTS: [Sort; 9] = [
-    Sort::Right,
-    Sort::Right,
-    Sort::Right,
-    Sort::Right,
-    Sort::Spoilt,
-    Sort::Often,
-    Sort::Slice,
-    Sort::Output,
-    Sort::Extreme,
-];
-
-/// Wrong lengths of the output.
-const WRONG_OUTPUTS: [usize; 7] = [0, 1, 16_384, 32_767, 32_769, 32_784, 65_536];
-
-/// One of the three slices gets another length.
-fn resize(random: &mut Random, lent: &mut Lent) {
-    let count = lent.row.len();
-    let long = random.pick(&[0, count.saturating_sub(1), count + 1, 2 * count + 2, 1024]);
-    match random.below(3) {
-        0 => lent.row.resize(long, 1),
-        1 => lent.column.resize(long, 1),
-        _ => lent.weight.resize(long, 1),
-    }
-}
-
-/// What is lent, by its sort: a graph, and the length of the output.
-fn lent_of(random: &mut Random, sort: Sort) -> (Lent, usize) {
-    let mut lent = any(random);
-    let mut long = SHEET_TEXT;
-    match sort {
-        Sort::Right => {}
-        Sort::Spoilt => lent.spoil(random),
-        Sort::Often => {
-            for _ in 0..2 + random.below(4) {
-                lent.spoil(random);
-            }
-        }
-        Sort::Slice => resize(random, &mut lent),
-        Sort::Output => long = random.pick(&WRONG_OUTPUTS),
-        Sort::Extreme => {
-            let mut graphs = extreme_graphs(random);
-            graphs.push(Lent::largest(random, lent.kind, 1025));
-            lent = graphs.swap_remove(random.below(graphs.len() as u64) as usize);
-        }
-    }
-    (lent, long)
-}
-
-/// The slice whose length is wrong, if just one is.
-fn wrong_length(lent: &Lent, long: usize) -> Option<Seen> {
-    let edges = lent.edges as usize;
-    let output = format!("output of {long} bytes");
-    let lengths = [
-        ("row", lent.row.len(), edges),
-        ("column", lent.column.len(), edges),
-        ("weight", lent.weight.len(), edges),
-        (output.as_str(), long, SHEET_TEXT),
-    ];
-    let wrong = lengths.into_iter();
-    let wrong: Vec<_> = wrong.filter(|&(_, has, right)| has != right).collect();
-    match wrong[..] {
-        [(name, has, right)] if has < right => Some(other(format!("{name}, too short"))),
-        [(name, ..)] => Some(other(format!("{name}, too long"))),
-        _ => None,
-    }
-}
-
-/// All the lengths that must be seen to be wrong.
-fn wrong_lengths() -> Vec<Seen> {
-    let right = Lent::right(&mut Random::new(0), Kind::Bipartite, 1, 1, 1);
-    let mut seen = Vec::new();
-    for long in [0, 2] {
-        let mut wrong = [right.clone(), right.clone(), right.clone()];
-        wrong[0].row.resize(long, 1);
-        wrong[1].column.resize(long, 1);
-        wrong[2].weight.resize(long, 1);
-        seen.extend(
-            wrong
-                .iter()
-                .filter_map(|lent| wrong_length(lent, SHEET_TEXT)),
-        );
-    }
-    seen.extend(
-        WRONG_OUTPUTS
-            .into_iter()
-            .filter_map(|long| wrong_length(&right, long)),
-    );
-    seen
-}
-
-/// The slices of a graph between guards.
-struct GuardedEdges {
-    row: Guarded<u32>,
-    column: Guarded<u32>,
-    weight: Guarded<i32>,
-}
-
-impl GuardedEdges {
-    fn of(g: &Graph) -> GuardedEdges {
-        GuardedEdges {
-            row: Guarded::of(g.row, 77),
-            column: Guarded::of(g.column, 77),
-            weight: Guarded::of(g.weight, 77),
-        }
-    }
-
-    /// The same graph, with these slices.
-    fn lend<'a>(&'a self, g: &Graph) -> Graph<'a> {
-        Graph {
-            row: self.row.lend(),
-            column: self.column.lend(),
-            weight: self.weight.lend(),
-            ..*g
-        }
-    }
-
-    /// Whether slices and guards are as they were.
-    fn unharmed(&self, g: &Graph) -> bool {
-        self.row.unharmed()
-            && self.column.unharmed()
-            && self.weight.unharmed()
-            && self.row.lend() == g.row
-            && self.column.lend() == g.column
-            && self.weight.lend() == g.weight
-    }
-}
-
 const LONGEST: &str = "longest text";
 
 /// What a right graph shows, with the length of its tidy text.
@@ -191,32 +44,20 @@ pub fn sorts_of(lent: &Lent, length: usize) -> Vec<Seen> {
     seen
 }
 
-/// Tidies by both programs, by the proved call twice, with outputs that hold other bytes.
+/// Tidies by both programs.
 fn compare_one(random: &mut Random, tally: &mut Tally) {
     let sort = random.pick(&SORTS);
-    let (lent, long) = lent_of(random, sort);
+    let right = any(random);
+    let (lent, long) = lent_of(random, sort, right);
     let g = lent.lend();
-    let mut expected = vec![9; long];
-    let answer = reference::tidy_graph(&g, &mut expected);
-    let edges = GuardedEdges::of(&g);
-    let tidied = [5, 255].map(|held| {
-        let mut out = Guarded::new(long, held, 77);
-        let answer = proved::tidy_graph(&edges.lend(&g), out.lend_mut());
-        (answer, out)
-    });
-    let same = |(told, out): &(Result<usize, Refusal>, Guarded<u8>)| {
-        *told == answer && out.lend() == expected && out.unharmed()
-    };
-    let cleared = answer.is_ok() || expected.iter().all(|&byte| byte == 0);
-    let agreed = tidied.iter().all(same) && edges.unharmed(&g) && cleared;
-    let mut seen = vec![Seen::of(&answer)];
-    seen.extend(wrong_length(&lent, long));
-    if let Ok(length) = answer {
+    let written = Written::by(&g, long, reference::tidy_graph, proved::tidy_graph);
+    let mut seen = vec![Seen::of(&written.expected)];
+    seen.extend(wrong_length(&lengths(&lent, long)));
+    if let Ok(length) = written.expected {
         seen.extend(sorts_of(&lent, length));
     }
-    tally.note(&seen, agreed, || {
-        let told = tidied.each_ref().map(|(told, _)| told);
-        format!("{answer:?} {told:?} {sort:?} {lent:?} {long}")
+    tally.note(&seen, written.agreed, || {
+        format!("{written:?} {sort:?} {lent:?} {long}")
     });
 }
 
@@ -448,7 +289,8 @@ pub fn compare(seed: u64, count: u64) -> Vec<bool> {
     }
     let mut demanded = vec![Seen::Result];
     demanded.extend([4, 6, 7, 8, 9].map(Seen::Refusal));
-    demanded.extend(wrong_lengths());
+    demanded.extend(wrong_slices(&["row", "column", "weight"]));
+    demanded.extend(wrong_outputs());
     demanded.extend(all_sorts());
     let mut results = vec![tidied.report_all(count, &demanded)];
     results.extend(joined.report(count));

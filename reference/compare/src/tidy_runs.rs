@@ -1,7 +1,7 @@
 //! The built program `tidy`, on many texts, beside the separately written program; what it wrote is tidied again, and read by the proved reader.
 
 use crate::examples::{self, file_name, is_example};
-use crate::files::{Entry, NAMES};
+use crate::files::{Entry, Held, Named, NAMES};
 use crate::folders;
 use crate::graphs::{extreme_graphs, Lent};
 use crate::noise::{besides_numbers, BESIDES};
@@ -96,14 +96,17 @@ impl<'a> Tidying<'a> {
 
 impl Twice for Tidying<'_> {
     const PROGRAM: &'static str = TIDY;
-    const FILE: &'static str = NAMES[0];
 
     fn name(&self) -> &str {
         &self.sheet.0
     }
 
-    fn entry(&self) -> &Entry {
-        &self.sheet.1
+    fn files(&self) -> Named<'_> {
+        vec![(NAMES[0], &self.sheet.1)]
+    }
+
+    fn files_again(written: Vec<u8>) -> Held {
+        vec![(NAMES[0], Entry::Text(written))]
     }
 
     fn notes(&self) -> &[Note] {
@@ -125,7 +128,7 @@ impl Twice for Tidying<'_> {
         if again.out != left.out {
             return Err(format!("tidied again: {}", again.shown()));
         }
-        let text = self.entry().text().unwrap_or_default();
+        let text = self.sheet.1.text().unwrap_or_default();
         if Said::by_text(&left.out) != Said::by_text(text) {
             return Err("it says something else than before".into());
         }

@@ -1,30 +1,33 @@
-//! The built programs that write one text anew: each is run on a text, and then on what it wrote.
+//! The built programs that write a text in another way: each is run, and then it, or the one that leads back, is run on what it wrote.
 
-use crate::files::Entry;
+use crate::files::{named, Held, Named};
 use crate::runs::{Built, Printed};
 use crate::tally::{pick, Note, Tallies};
 use std::io;
 
-/// The number of texts under valgrind.
+/// The number of runs under valgrind.
 const UNDER_VALGRIND: usize = 80;
 
-/// A run on a text, and what is expected of it.
+/// A run, and what is expected of it.
 pub trait Twice {
     /// The name of the built program.
     const PROGRAM: &'static str;
-    /// The name of the file that it reads.
-    const FILE: &'static str;
+    /// The name of the one that is run on what it wrote.
+    const AGAIN: &'static str = Self::PROGRAM;
 
-    /// What the text is called where it is shown.
+    /// What its folder is called where it is shown.
     fn name(&self) -> &str;
 
-    /// What stands under the file's name.
-    fn entry(&self) -> &Entry;
+    /// What stands in its folder.
+    fn files(&self) -> Named<'_>;
+
+    /// What stands in the folder of the run on what it wrote.
+    fn files_again(written: Vec<u8>) -> Held;
 
     /// What the run shows.
     fn notes(&self) -> &[Note];
 
-    /// Whether a run on the text, and one on what it wrote, wrote what they must; if not, why.
+    /// Whether it, and the run on what it wrote, wrote what they must; if not, why.
     fn judge_output(&self, left: &Printed, again: &Printed) -> Result<(), String>;
 
     /// Whether the two runs left behind what they must; if not, why.
@@ -40,21 +43,12 @@ pub trait Twice {
         tallies.note(self.notes(), fault.is_none(), || {
             let fault = fault.clone().unwrap_or_default();
             let (program, name) = (Self::PROGRAM, self.name());
-            let (out, text) = (left.shown(), self.entry().shown());
-            format!("{program}: {fault}, printed {out}, {name}: {text}")
+            let files = self.files().into_iter();
+            let files = files.map(|(file, entry)| format!("\n  {file}: {}", entry.shown()));
+            let (out, files) = (left.shown(), files.collect::<String>());
+            format!("{program}: {fault}, printed {out}, {name}:{files}")
         });
     }
-}
-
-/// Runs the program on each of these.
-fn run_all<'a, R: Twice>(
-    built: &Built,
-    all: impl Iterator<Item = &'a Entry>,
-) -> io::Result<Vec<Printed>> {
-    let starts: Vec<_> = all
-        .map(|entry| (R::PROGRAM, vec![(R::FILE, entry)]))
-        .collect();
-    built.run_all(&starts)
 }
 
 /// Compares these runs; under valgrind, only some of them, and those on what was written without it. True for each comparison that saw all it must see and in which nothing was wrong.
@@ -68,10 +62,14 @@ pub fn compare<R: Twice>(
         let mut picked = pick(&notes, UNDER_VALGRIND).into_iter();
         runs.retain(|_| picked.next() == Some(true));
     }
-    let left = run_all::<R>(built, runs.iter().map(R::entry))?;
-    let written = left.iter().map(|left| Entry::Text(left.out.clone()));
-    let written: Vec<_> = written.collect();
-    let again = run_all::<R>(&built.without_valgrind(), written.iter())?;
+    let starts: Vec<_> = runs.iter().map(|run| (R::PROGRAM, run.files())).collect();
+    let left = built.run_all(&starts)?;
+    let held: Vec<_> = left
+        .iter()
+        .map(|left| R::files_again(left.out.clone()))
+        .collect();
+    let starts: Vec<_> = held.iter().map(|held| (R::AGAIN, named(held))).collect();
+    let again = built.without_valgrind().run_all(&starts)?;
     let mut tallies = Tallies::default();
     for (run, (left, again)) in runs.iter().zip(left.iter().zip(&again)) {
         run.count(left, again, &mut tallies);

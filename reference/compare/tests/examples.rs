@@ -1,12 +1,14 @@
 //! The separately written program and the proved calls on the examples of the repository.
 
-use compare::examples::{example, file, texts, TIDIED};
-use compare::files::OLD;
+use compare::assignments::Assigned;
+use compare::examples::{assignments, example, file, texts, PARTNER, TIDIED};
+use compare::files::{CROSSES, OLD};
 use compare::proved;
 use compare::tidies::{read, tidy};
 use reference::programs::Input;
 use reference::rewrite::CANNOT_READ;
-use reference::{mark_output, rewrite, solve_output, tidy_output};
+use reference::{from_dimacs_output, mark_output, rewrite};
+use reference::{solve_output, tidy_output, to_dimacs_output};
 
 fn solve(name: &str) -> String {
     String::from_utf8(solve_output(&example(name).lend())).unwrap()
@@ -164,4 +166,34 @@ fn the_untidy_example_is_the_season_and_is_tidied() {
     let mut folder = season;
     folder.entries[0] = untidy.entries[0].clone();
     assert_eq!(mark_output(&folder.lend()), b"refused 15 at 1 in input\n");
+}
+
+#[test]
+fn the_crosses_go_out_and_come_in() {
+    let dimacs = example("examples/dimacs");
+    let [crosses, partner] =
+        [CROSSES, PARTNER].map(|name| file(&format!("examples/dimacs/{name}")));
+    let (crosses, partner) = (crosses.text().unwrap(), partner.text().unwrap());
+    assert_ne!(crosses, partner);
+    assert_eq!(to_dimacs_output(&dimacs.lend()), crosses);
+    for text in [crosses, partner] {
+        assert_eq!(Some(&from_dimacs_output(text)[..]), dimacs.lend().graph);
+        assert_eq!(Assigned::read(text).unwrap().write().unwrap(), crosses);
+    }
+}
+
+#[test]
+fn of_the_other_sheets_only_those_with_limits_of_1_go_out() {
+    assert_eq!(assignments().len(), 2);
+    for (name, line) in [
+        ("examples/season", "refused 19 at 2 in input\n"),
+        ("examples/tank", "refused 16 at 0 in input\n"),
+        ("examples/untidy", "refused 2 at 1 in limits.mtx\n"),
+    ] {
+        assert_eq!(to_dimacs_output(&example(name).lend()), line.as_bytes());
+    }
+    for name in ["examples/worked", "examples/walk"] {
+        let out = to_dimacs_output(&example(name).lend());
+        assert!(out.starts_with(b"p asn "), "{name}");
+    }
 }

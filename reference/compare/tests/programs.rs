@@ -1,5 +1,6 @@
 //! What a run of a program may not leave behind.
 
+use compare::dimacs_runs::{ComingIn, GoingOut};
 use compare::examples::example;
 use compare::files::{Entry, Folder};
 use compare::old_texts::OldText;
@@ -265,4 +266,100 @@ fn an_exit_status_is_compared_in_both_runs() {
     assert!(tidying.judge(&printed(tidy), &printed(tidy)).is_ok());
     assert!(tidying.judge(&failed, &printed(tidy)).is_err());
     assert!(tidying.judge(&printed(tidy), &failed).is_err());
+}
+
+/// Whether `to_dimacs` may print this in a folder, and `from_dimacs` this for what it printed.
+fn may_go_out(folder: &Folder, out: &str, back: &str) -> bool {
+    let run = GoingOut::new(folder);
+    run.judge(&printed(out), &printed(back)).is_ok()
+}
+
+/// Whether `from_dimacs` may print this for a text, and `to_dimacs` this for what it printed.
+fn may_come_in(crosses: &str, out: &str, back: &str) -> bool {
+    let crosses = (crosses.into(), Entry::Text(crosses.into()));
+    let run = ComingIn::new(&crosses);
+    run.judge(&printed(out), &printed(back)).is_ok()
+}
+
+const SHEET: &str =
+    "%%MatrixMarket matrix coordinate integer general\n2 2 3\n2 2 0\n1 1 7\n2 1 -5\n";
+const CROSSES: &str = "p asn 4 3\nn 1\nn 2\na 2 4 0\na 1 3 -7\na 2 3 5\n";
+
+#[test]
+fn only_the_crosses_of_a_sheet_may_be_written() {
+    let folder = with("2 2 3\n2 2 0\n1 1 7\n2 1 -5\n", "4 1\n1\n1\n1\n1\n");
+    assert!(may_go_out(&folder, CROSSES, SHEET));
+    for wrong in [
+        CROSSES.replace("p asn 4 3", "p asn 2 3"),
+        CROSSES.replace("p asn", "p  asn"),
+        CROSSES.replace("n 2\n", ""),
+        CROSSES.replace("a 2 4", "a 2 2"),
+        CROSSES.replace("-7", "7"),
+        CROSSES.replace(" 0\n", " -0\n"),
+        CROSSES.replace("a 1 3 -7\na 2 3 5\n", "a 2 3 5\na 1 3 -7\n"),
+        CROSSES.trim_end().to_string(),
+        format!("c\n{CROSSES}"),
+        format!("{CROSSES}\n"),
+        "refused 19 at 1 in input\n".into(),
+        String::new(),
+    ] {
+        assert!(!may_go_out(&folder, &wrong, SHEET), "{wrong:?}");
+    }
+    for wrong in [
+        SHEET.replace("2 2 0\n1 1 7\n", "1 1 7\n2 2 0\n"),
+        SHEET.replace("general", "symmetric"),
+        SHEET.replace("-5", "5"),
+        String::new(),
+    ] {
+        assert!(!may_go_out(&folder, CROSSES, &wrong), "{wrong:?}");
+    }
+}
+
+#[test]
+fn what_cannot_go_out_may_not() {
+    let folder = with("2 2 0\n", "4 1\n1\n1\n2\n0\n");
+    let line = "refused 19 at 3 in input\n";
+    let back = "refused 20 at 1 in crosses.asn\n";
+    assert!(may_go_out(&folder, line, back));
+    for wrong in [
+        "p asn 4 0\nn 1\nn 2\n",
+        "refused 19 at 5 in limits.mtx\n",
+        "refused 19 at 4 in input\n",
+        "refused 10 at 3 in input\n",
+        "",
+    ] {
+        assert!(!may_go_out(&folder, wrong, back), "{wrong:?}");
+    }
+}
+
+#[test]
+fn only_the_sheet_of_crosses_may_be_written() {
+    let partner = format!("cat\n\n{}", CROSSES.replace(' ', "\t"));
+    for crosses in [CROSSES, &partner] {
+        assert!(may_come_in(crosses, SHEET, CROSSES));
+        assert!(!may_come_in(crosses, SHEET, &partner));
+        for wrong in [
+            SHEET.replace("2 2 0\n1 1 7\n", "1 1 7\n2 2 0\n"),
+            SHEET.replace("general", "symmetric"),
+            SHEET.replace("general", "GENERAL"),
+            SHEET.replace(" 7", " -7"),
+            SHEET.replace("2 2 0", "2 4 0"),
+            SHEET.replace("2 2 3\n", "4 3 3\n"),
+            SHEET.trim_end().to_string(),
+            String::new(),
+        ] {
+            assert!(!may_come_in(crosses, &wrong, CROSSES), "{wrong:?}");
+        }
+    }
+    let line = "refused 21 at 2 in crosses.asn\n";
+    let back = "refused 2 at 1 in sheet.mtx\n";
+    assert!(may_come_in("p asn 4 0\nn 2\n", line, back));
+    for wrong in [
+        "refused 20 at 2 in crosses.asn\n",
+        "refused 21 at 1 in crosses.asn\n",
+        "refused 21 at 2 in input\n",
+        SHEET,
+    ] {
+        assert!(!may_come_in("p asn 4 0\nn 2\n", wrong, back), "{wrong:?}");
+    }
 }

@@ -75,6 +75,12 @@ impl Graph<'_> {
         }
     }
 
+    /// The row, the column and the weight of each edge, in their order.
+    pub(crate) fn listed(&self) -> impl Iterator<Item = (u32, u32, i32)> + '_ {
+        let ends = self.row.iter().zip(self.column);
+        ends.zip(self.weight).map(|((&r, &c), &w)| (r, c, w))
+    }
+
     /// The two ends of an edge as vertex indices from 0 (the two fish of a
     /// pair). For graphs that passed [`test_graph`].
     pub fn ends(&self, edge: usize) -> (usize, usize) {

@@ -1,6 +1,7 @@
 //! The separately written program of document 01, "The crossing sheet, its
 //! plans and its prices", and of document 02's requests for an index, for one
-//! way to write a number, for the tidy sheet and for prices in half points.
+//! way to write a number, for the tidy sheet, for prices in half points and for
+//! DIMACS assignment files.
 //!
 //! It uses the field's words. Each definition says which word of the documents
 //! it is.
@@ -8,6 +9,7 @@
 #![forbid(unsafe_code)]
 #![warn(missing_docs)]
 
+pub mod assignment;
 pub mod brute;
 pub mod graph;
 pub mod index;
@@ -22,11 +24,13 @@ pub mod text;
 pub mod tidy;
 pub mod write;
 
+pub use assignment::{read_assignment, write_assignment};
 pub use brute::{feasible_subgraphs, largest_weight, FeasibleSubgraphs};
 pub use graph::{half_points, Graph, Head, Kind, OwnedGraph};
 pub use index::{build_index, index_length, test_index};
 pub use measure::{measure, Measures};
-pub use programs::{mark_output, solve_output, tidy_output, Files};
+pub use programs::{from_dimacs_output, mark_output, solve_output};
+pub use programs::{tidy_output, to_dimacs_output, Files};
 pub use random::{random_graph, Random};
 pub use read::{read_graph, read_graph_by, read_numbers, read_numbers_by};
 pub use read::{read_subgraph, read_subgraph_by, What};

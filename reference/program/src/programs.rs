@@ -1,20 +1,23 @@
-//! What the programs `solve`, `mark` and `tidy` print.
+//! What the programs `solve`, `mark`, `tidy`, `to_dimacs` and `from_dimacs`
+//! print.
 
-use crate::graph::{Graph, OwnedGraph, MOST_EDGES};
+use crate::assignment::{read_assignment, write_assignment, ASSIGNMENT_BOUNDS, ASSIGNMENT_TEXT};
+use crate::graph::{Graph, Head, OwnedGraph, MOST_EDGES};
 use crate::index::{build_index, index_length};
 use crate::measure::measure;
 use crate::read::{read_graph, read_numbers, read_subgraph, What};
 use crate::refusal::Refusal;
 use crate::solve::{solve, WORKSPACE};
 use crate::tidy::{tidy_graph, SHEET_TEXT};
-use crate::write::{write_subgraph, PLAN_TEXT};
+use crate::write::{write_subgraph, Text, PLAN_TEXT};
 
-/// The files of the three programs; an absent one is `None`.
+/// The files of the programs on a graph; an absent one is `None`.
 #[derive(Clone, Copy, Debug, Default)]
 pub struct Files<'a> {
     /// The graph (sheet.mtx), all that `tidy` reads.
     pub graph: Option<&'a [u8]>,
-    /// The bounds (limits.mtx).
+    /// The bounds (limits.mtx), with the graph all that `solve` and `to_dimacs`
+    /// read.
     pub bounds: Option<&'a [u8]>,
     /// The subgraph (plan.mtx), read by `mark`.
     pub subgraph: Option<&'a [u8]>,
@@ -47,12 +50,13 @@ pub fn printed(result: &Result<Vec<u8>, Refused>) -> Vec<u8> {
     }
 }
 
-/// Reads sheet.mtx.
-fn read_sheet(files: &Files) -> Result<OwnedGraph, Refused> {
+/// The graph that a reader puts into three outputs of 1,024 numbers.
+fn graph_by(
+    read: impl FnOnce(&mut [u32], &mut [u32], &mut [i32]) -> Result<Head, Refusal>,
+) -> Result<OwnedGraph, Refusal> {
     let lent = MOST_EDGES as usize;
     let (mut row, mut column, mut weight) = (vec![0; lent], vec![0; lent], vec![0; lent]);
-    let text = files.graph.unwrap_or_default();
-    let head = read_graph(text, &mut row, &mut column, &mut weight).map_err(from("sheet.mtx"))?;
+    let head = read(&mut row, &mut column, &mut weight)?;
     let m = head.edges as usize;
     row.truncate(m);
     column.truncate(m);
@@ -65,6 +69,13 @@ fn read_sheet(files: &Files) -> Result<OwnedGraph, Refused> {
         column,
         weight,
     })
+}
+
+/// Reads sheet.mtx.
+fn read_sheet(files: &Files) -> Result<OwnedGraph, Refused> {
+    let text = files.graph.unwrap_or_default();
+    let graph = graph_by(|row, column, weight| read_graph(text, row, column, weight));
+    graph.map_err(from("sheet.mtx"))
 }
 
 /// A graph and its bounds.
@@ -108,6 +119,17 @@ pub fn mark_output(files: &Files) -> Vec<u8> {
 /// What `tidy` prints.
 pub fn tidy_output(files: &Files) -> Vec<u8> {
     printed(&tidy_files(files))
+}
+
+/// What `to_dimacs` prints.
+pub fn to_dimacs_output(files: &Files) -> Vec<u8> {
+    printed(&to_dimacs_files(files))
+}
+
+/// What `from_dimacs` prints for the text of crosses.asn; an absent file is an
+/// empty text.
+pub fn from_dimacs_output(text: &[u8]) -> Vec<u8> {
+    printed(&from_dimacs_file(text))
 }
 
 /// The plan that `solve` prints, or its refusal.
@@ -173,6 +195,33 @@ pub fn tidy_files(files: &Files) -> Result<Vec<u8>, Refused> {
     let graph = read_sheet(files)?;
     let mut out = vec![0; SHEET_TEXT];
     let length = tidy_graph(&graph.lend(), &mut out).map_err(from("input"))?;
+    out.truncate(length);
+    Ok(out)
+}
+
+/// The DIMACS text that `to_dimacs` prints, or its refusal.
+pub fn to_dimacs_files(files: &Files) -> Result<Vec<u8>, Refused> {
+    let input = Input::read(files)?;
+    let mut out = vec![0; ASSIGNMENT_TEXT];
+    let length = write_assignment(&input.graph(), &input.bound, &mut out).map_err(from("input"))?;
+    out.truncate(length);
+    Ok(out)
+}
+
+/// The graph's text that `from_dimacs` prints, its edges in the order of the
+/// arcs, or its refusal.
+pub fn from_dimacs_file(text: &[u8]) -> Result<Vec<u8>, Refused> {
+    let mut bound = [0; ASSIGNMENT_BOUNDS];
+    let graph =
+        graph_by(|row, column, weight| read_assignment(text, row, column, weight, &mut bound))
+            .map_err(from("crosses.asn"))?;
+    let mut out = vec![0; SHEET_TEXT];
+    let mut text = Text {
+        out: &mut out,
+        length: 0,
+    };
+    text.graph(&graph.lend(), graph.lend().listed());
+    let length = text.length;
     out.truncate(length);
     Ok(out)
 }

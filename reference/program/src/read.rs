@@ -20,7 +20,7 @@ pub enum What {
 }
 
 /// The lines of a text that is not too long (refusal 1).
-fn lines_of(text: &[u8], rules: Rules) -> Result<Lines<'_>, Refusal> {
+pub(crate) fn lines_of(text: &[u8], rules: Rules) -> Result<Lines<'_>, Refusal> {
     if text.len() > MOST_TEXT {
         return Err(Refusal::new(1, 0));
     }

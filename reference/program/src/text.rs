@@ -1,4 +1,4 @@
-//! Lines, words, numbers and headers of Matrix Market texts.
+//! Lines, words and numbers of texts, and headers of Matrix Market texts.
 
 use crate::graph::{Kind, MOST_OLD_PRICE, MOST_PRICE};
 use crate::refusal::Refusal;
@@ -93,7 +93,7 @@ impl<'a> Lines<'a> {
     }
 
     /// The next line without its byte 10, or nothing after the last.
-    fn next_line(&mut self) -> Option<&'a [u8]> {
+    pub(crate) fn next_line(&mut self) -> Option<&'a [u8]> {
         if self.rest.is_empty() {
             return None;
         }
@@ -114,7 +114,7 @@ impl<'a> Lines<'a> {
     }
 
     /// A refusal at the line after the last, for a missing line.
-    fn refuse_missing(&self, number: u32) -> Refusal {
+    pub(crate) fn refuse_missing(&self, number: u32) -> Refusal {
         Refusal::new(number, self.number + 1)
     }
 
@@ -213,12 +213,12 @@ pub(crate) fn is_blank(byte: u8) -> bool {
 }
 
 /// Whether a line is empty or of blanks only.
-fn is_blank_line(line: &[u8]) -> bool {
+pub(crate) fn is_blank_line(line: &[u8]) -> bool {
     line.iter().all(|&byte| is_blank(byte))
 }
 
 /// The words of a line, if it has just as many as asked for.
-fn words<const COUNT: usize>(line: &[u8]) -> Option<[&[u8]; COUNT]> {
+pub(crate) fn words<const COUNT: usize>(line: &[u8]) -> Option<[&[u8]; COUNT]> {
     let mut found = line
         .split(|&byte| is_blank(byte))
         .filter(|word| !word.is_empty());

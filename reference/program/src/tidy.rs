@@ -18,18 +18,12 @@ pub fn tidy_graph(graph: &Graph, out: &mut [u8]) -> Result<usize, Refusal> {
     test_graph(graph)?;
 
     // No two edges have the same ends, so the weight never decides the order.
-    let ends = graph.row.iter().zip(graph.column);
-    let edges = ends.zip(graph.weight);
-    let mut edges: Vec<_> = edges.map(|((&r, &c), &w)| (r, c, w)).collect();
+    let mut edges: Vec<_> = graph.listed().collect();
     edges.sort_unstable();
 
     // The longest text, of 1,024 lines of 17 bytes and less than 100 bytes
     // before them, fits.
     let mut text = Text { out, length: 0 };
-    text.header(b"integer", graph.kind);
-    text.line([graph.rows, graph.columns, graph.edges]);
-    for (row, column, weight) in edges {
-        text.line([i64::from(row), i64::from(column), i64::from(weight)]);
-    }
+    text.graph(graph, edges.into_iter());
     Ok(text.length)
 }

@@ -48,13 +48,32 @@ impl Text<'_> {
     }
 
     /// Appends the header of a text of coordinates: its field and its kind.
-    pub(crate) fn header(&mut self, field: &[u8], kind: Kind) {
+    fn header(&mut self, field: &[u8], kind: Kind) {
         self.bytes(b"%%MatrixMarket matrix coordinate ");
         self.bytes(field);
         self.bytes(match kind {
             Kind::Bipartite => b" general\n",
             Kind::General => b" symmetric\n",
         });
+    }
+
+    /// Appends a graph's text: its head, and its edges in this order.
+    pub(crate) fn graph(&mut self, graph: &Graph, edges: impl Iterator<Item = (u32, u32, i32)>) {
+        self.header(b"integer", graph.kind);
+        self.line([graph.rows, graph.columns, graph.edges]);
+        for (row, column, weight) in edges {
+            self.line([i64::from(row), i64::from(column), i64::from(weight)]);
+        }
+    }
+
+    /// Appends a line of words, with a space after each, and of numbers.
+    pub(crate) fn words<T: Into<i64>, const COUNT: usize>(
+        &mut self,
+        words: &str,
+        numbers: [T; COUNT],
+    ) {
+        self.bytes(words.as_bytes());
+        self.line(numbers);
     }
 
     /// Appends a line of numbers with one space between them.

@@ -1,4 +1,4 @@
-//! What `solve`, `mark` and `tidy` print.
+//! What `solve`, `mark`, `tidy`, `to_dimacs` and `from_dimacs` print.
 
 mod common;
 use common::*;
@@ -239,5 +239,70 @@ fn what_is_no_sheet_is_not_tidied() {
     ] {
         let line = format!("refused {number} at {place} in sheet.mtx\n");
         assert_eq!(tidy_prints(text), line.as_bytes());
+    }
+}
+
+/// The text that `to_dimacs` prints for the sheet above.
+const CROSSES: &[u8] = b"p asn 4 4
+n 1
+n 2
+a 1 3 -5
+a 1 4 -4
+a 2 3 -4
+a 2 4 -1
+";
+
+fn to_dimacs_prints(sheet: &[u8], limits: &[u8]) -> String {
+    let files = Files {
+        graph: Some(sheet),
+        bounds: Some(limits),
+        ..Files::default()
+    };
+    String::from_utf8(to_dimacs_output(&files)).unwrap()
+}
+
+#[test]
+fn a_sheet_goes_out_and_comes_back() {
+    assert_eq!(to_dimacs_prints(SHEET, LIMITS).as_bytes(), CROSSES);
+    assert_eq!(from_dimacs_output(CROSSES), SHEET);
+    // In the order of the arcs.
+    let sheet = sheet("general", "2 2 3\n2 2 0\n1 1 -7\n2 1 1000000\n");
+    let crosses = "p asn 4 3\nn 1\nn 2\na 2 4 0\na 1 3 7\na 2 3 -1000000\n";
+    assert_eq!(to_dimacs_prints(&sheet, LIMITS), crosses);
+    assert_eq!(from_dimacs_output(crosses.as_bytes()), sheet);
+}
+
+#[test]
+fn what_cannot_go_out_is_refused() {
+    let one_sided = sheet("symmetric", "4 4 0\n");
+    let wrong = sheet("general", "2 2 1\n1 3 5\n");
+    let bounds = |lines: &str| numbers(&format!("4 1\n{lines}"));
+    for (sheet, limits, line) in [
+        (SHEET, &bounds("1\n1\n0\n1\n")[..], "19 at 3 in input"),
+        (SHEET, &bounds("2\n64\n0\n1\n"), "19 at 1 in input"),
+        (SHEET, &bounds("2\n1\n1\n65\n"), "10 at 6 in limits.mtx"),
+        (SHEET, b"", "2 at 1 in limits.mtx"),
+        (&one_sided, &bounds("1\n2\n1\n1\n"), "16 at 0 in input"),
+        (&one_sided, LIMITS, "16 at 0 in input"),
+        (&wrong, b"", "6 at 3 in sheet.mtx"),
+        (b"", LIMITS, "2 at 1 in sheet.mtx"),
+    ] {
+        let line = format!("refused {line}\n");
+        assert_eq!(to_dimacs_prints(sheet, limits), line);
+    }
+}
+
+#[test]
+fn what_cannot_come_in_is_refused() {
+    let long = vec![b'\n'; 32_769];
+    for (text, line) in [
+        (&long[..], "1 at 0"),
+        (b"", "20 at 1"),
+        (b"c\np asn 2 0\nn 2\n", "21 at 3"),
+        (b"c\np asn 2 0\n", "4 at 2"),
+        (b"p asn 2 1\nn 1\na 2 1 0\n", "6 at 3"),
+    ] {
+        let line = format!("refused {line} in crosses.asn\n");
+        assert_eq!(from_dimacs_output(text), line.as_bytes());
     }
 }

@@ -2,8 +2,8 @@
 use mathlib.Core.Path.{_∙_}
 use lib.ListN.{length}
 use denote.Ref.{now}
-use Rattle.graph_reader.proofs.Whole.{row-kept, column-kept, weight-kept, lengths-right, cleared-again, lent-cleared, whole-lent, whole-read}
-use Rattle.graph_reader.proofs.Whole.{whole-refused}
+use Rattle.edge_reader.proofs.Whole.{row-kept, column-kept, weight-kept, lengths-right, cleared-again, whole-read, whole-refused}
+use Rattle.graph_reader.proofs.Whole.{lent-cleared, whole-lent, lent-right, lent-passed}
 use borrow.Author.Needs.{needs}
 use Rattle.graph_reader.proofs.read_graph_by.Statement.{statement}
 use Rattle.graph_reader.proofs.read_graph_by.Tie as tie
@@ -40,9 +40,12 @@ returns-2 c =
     let at-both = at-both2 .before in
     let at-clear = at-both .before .before .before .before .before .before in
     let args = at-clear .before .before .before .before .before .before .before .args in
-    whole-read (args .rules) (args .field) (length (now (args .row))) (length (now (args .column))) (length (now (args .weight))) (now (args .text))
-    (lengths-right (at-clear .clear .ensures) (at-both .both .ensures) (at-both2 .both2 .ensures)) _ (at-check-text .check-text .ensures)
-    (at-enum-told .enum-told .given .1) (at-read-lines .read-lines .ensures) (c .before .s .given .1)
+    let right = lengths-right (at-clear .clear .ensures) (at-both .both .ensures) (at-both2 .both2 .ensures) in
+    let passed = lent-passed (args .rules) (args .field) (length (now (args .row))) (length (now (args .column))) (length (now (args .weight)))
+    (now (args .text)) right _ (at-check-text .check-text .ensures) (at-enum-told .enum-told .given .1) in
+    let long = lent-right (args .rules) (args .field) (length (now (args .row))) (length (now (args .column))) (length (now (args .weight)))
+    (now (args .text)) right _ (at-check-text .check-text .ensures) (at-enum-told .enum-told .given .1) in
+    whole-read _ passed (at-read-lines .read-lines .ensures) long (c .before .s .given .1)
 
 returns-3 : tie.Need-returns-3
 returns-3 c =
@@ -55,9 +58,10 @@ returns-3 c =
     let at-both = at-both2 .before in
     let at-clear = at-both .before .before .before .before .before .before in
     let args = at-clear .before .before .before .before .before .before .before .args in
-    whole-refused (args .rules) (args .field) (length (now (args .row))) (length (now (args .column))) (length (now (args .weight))) (now (args .text))
-    (lengths-right (at-clear .clear .ensures) (at-both .both .ensures) (at-both2 .both2 .ensures)) _ (at-check-text .check-text .ensures)
-    (at-enum-told .enum-told .given .1) (at-read-lines .read-lines .ensures) (at-r2 .r2 .given .1)
+    let right = lengths-right (at-clear .clear .ensures) (at-both .both .ensures) (at-both2 .both2 .ensures) in
+    let passed = lent-passed (args .rules) (args .field) (length (now (args .row))) (length (now (args .column))) (length (now (args .weight)))
+    (now (args .text)) right _ (at-check-text .check-text .ensures) (at-enum-told .enum-told .given .1) in
+    whole-refused _ passed (at-read-lines .read-lines .ensures) (at-r2 .r2 .given .1)
     (cleared-again (at-clear2 .clear2 .ensures) (at-read-lines .read-lines .kept .1 .1 .1 .0 ∙ row-kept (at-clear .clear .ensures))
     (at-read-lines .read-lines .kept .1 .1 .1 .1 .0 ∙ column-kept (at-clear .clear .ensures))
     (at-read-lines .read-lines .kept .1 .1 .1 .1 .1 .0 ∙ weight-kept (at-clear .clear .ensures)))

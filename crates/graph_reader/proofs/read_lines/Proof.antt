@@ -5,7 +5,7 @@ use Rattle.layout.specs.GraphText.{graphLayout}
 use Rattle.lines.proofs.Walk.{opened-line, header-refused, header-goes, header-stops, size-refused, size-goes, size-stops}
 use Rattle.graph_reader.specs.OnLine.{shapeSays, ShapeInRange}
 use Rattle.graph_reader.proofs.OnLine.{header-is, header-not}
-use Rattle.graph_reader.proofs.Edges.{read-refused}
+use Rattle.edge_reader.proofs.Edges.{read-refused, read-as}
 use borrow.Author.Needs.{needs}
 use Rattle.graph_reader.proofs.read_lines.Statement.{statement}
 use Rattle.graph_reader.proofs.read_lines.Tie as tie
@@ -72,7 +72,7 @@ read-edges-requires c κs =
     let w = header-goes L (at-header-line .header-line .ensures) (at-start .start .given .1) _
     (header-is (start .args .field) _ (at-header-on .header-on .ensures) (at-kind .kind .given .1)) in (
       size-goes L w (at-size-line .size-line .ensures) (at-start2 .start2 .given .1) _
-          (sym (at-size-on .size-on .ensures .0) ∙ ap shapeSays (at-s .s .given .1)),
+          (sym (at-size-on .size-on .ensures .0) ∙ ap shapeSays (at-s .s .given .1)) .reached,
       (subst ShapeInRange (at-s .s .given .1) (at-size-on .size-on .ensures .1), start .pre),
     )
 
@@ -98,8 +98,9 @@ returns-3 c =
 
 returns-4 : tie.Need-returns-4
 returns-4 c =
-    let fault = c .before .before .fault in
-    let at-size-on = c .before .before .before .before in
+    let at-fault = c .before .before in
+    let fault = at-fault .fault in
+    let at-size-on = at-fault .before .before in
     let at-start2 = at-size-on .before .before .before in
     let at-size-line = at-start2 .before .before in
     let at-kind = at-size-line .before .before in
@@ -113,6 +114,24 @@ returns-4 c =
     read-refused _
     (size-stops L w (at-size-line .size-line .ensures) (at-start2 .start2 .given .1) _
     (sym (at-size-on .size-on .ensures .0) ∙ ap shapeSays (fault .given .1)) (c .refused-at2 .ensures))
+
+returns-5 : tie.Need-returns-5
+returns-5 c =
+    let at-read-edges = c .before .before .before .before .before in
+    let at-s = at-read-edges .before .before .before .before .before in
+    let at-size-on = at-s .before .before in
+    let at-start2 = at-size-on .before .before .before in
+    let at-size-line = at-start2 .before .before in
+    let at-kind = at-size-line .before .before in
+    let at-header-on = at-kind .before .before in
+    let at-start = at-header-on .before .before .before in
+    let at-header-line = at-start .before .before in
+    let args = at-header-line .before .before .before .before .args in
+    let L = graphLayout (args .rules) (args .field) in
+    let w = header-goes L (at-header-line .header-line .ensures) (at-start .start .given .1) _
+    (header-is (args .field) _ (at-header-on .header-on .ensures) (at-kind .kind .given .1)) in
+    read-as (at-read-edges .read-edges .ensures)
+    (size-goes L w (at-size-line .size-line .ensures) (at-start2 .start2 .given .1) _ (sym (at-size-on .size-on .ensures .0) ∙ ap shapeSays (at-s .s .given .1)) .whole)
 
 pub read-lines-spec : {M : Type 1} → statement M
 read-lines-spec =
@@ -146,4 +165,4 @@ read-lines-spec =
     (λ c. search needs)
     (λ c. search needs)
     (λ c. search needs)
-    (λ c. search needs))
+    returns-5)

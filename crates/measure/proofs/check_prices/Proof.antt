@@ -10,7 +10,7 @@ use Rattle.graph.specs.Graph.{boundAt}
 use Rattle.dual.specs.Prices.{pricesOf}
 use Rattle.dual.specs.Measure.{priceTest}
 use Rattle.checks.specs.Checks.{lowestSays}
-use Rattle.measure.proofs.Tests.{first-refuses, second-refuses, none-refuses, place-fits}
+use Rattle.checks.proofs.Tests.{first-refuses, second-refuses, none-refuses, place-fits}
 use native.Mathlib.Omega.{arith}
 use borrow.Author.Needs.{needs}
 use Rattle.measure.proofs.check_prices.Statement.{statement}

@@ -12,7 +12,7 @@ use Rattle.checks.specs.declared.Lowest.{Lowest}
 use Rattle.checks.specs.Checks.{lowestSays, checkSays}
 use Rattle.checks.proofs.Scan.{says}
 use Rattle.lent.proofs.Lengths.{lent-passed}
-use Rattle.measure.proofs.Tests.{part-refuses, part-passes, first-refuses, second-refuses, none-refuses, place-fits}
+use Rattle.checks.proofs.Tests.{part-refuses, part-passes, first-refuses, second-refuses, none-refuses, place-fits}
 use native.Mathlib.Omega.{arith}
 use borrow.Author.Needs.{needs}
 use Rattle.measure.proofs.check_subgraph.Statement.{statement}

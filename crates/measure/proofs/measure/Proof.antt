@@ -12,7 +12,7 @@ use Rattle.dual.specs.Measure.{measures, setTest, coverTest, measureSays}
 use Rattle.checks.specs.declared.Lowest.{Lowest}
 use Rattle.checks.specs.Checks.{lowestSays, checkSays}
 use Rattle.sums.specs.Lent.{PricesLent}
-use Rattle.measure.proofs.Tests.{first-refuses, second-refuses, none-refuses, place-fits}
+use Rattle.checks.proofs.Tests.{first-refuses, second-refuses, none-refuses, place-fits}
 use Rattle.measure.proofs.Shown.{Shown, others-hold, shown, priceTests, first-refused, second-refused, last-decide}
 use Rattle.measure.proofs.Tables.{degrees-say, degrees-small, sets-say, few-sets, cover-say, measures-by}
 use native.Mathlib.Omega.{arith}

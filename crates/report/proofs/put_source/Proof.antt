@@ -19,10 +19,16 @@ returns-4 c = source-put _ (c .before .before .before .before .before .enum-told
 returns-5 : tie.Need-returns-5
 returns-5 c = source-put _ (c .before .before .before .before .before .enum-told5 .given .1) (c .before .before .put-bytes5 .ensures)
 
+returns-6 : tie.Need-returns-6
+returns-6 c = source-put _ (c .before .before .before .before .before .enum-told6 .given .1) (c .before .before .put-bytes6 .ensures)
+
 pub put-source-spec : {M : Type 1} → statement M
 put-source-spec =
     tie.close
     (tie.spec
+    (λ c. search needs)
+    (λ c. search needs)
+    (λ c κs. search needs)
     (λ c. search needs)
     (λ c. search needs)
     (λ c κs. search needs)
@@ -47,4 +53,6 @@ put-source-spec =
     (λ c. search needs)
     returns-4
     (λ c. search needs)
-    returns-5)
+    returns-5
+    (λ c. search needs)
+    returns-6)

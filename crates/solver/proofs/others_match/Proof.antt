@@ -1,5 +1,5 @@
 -- `solver::others_match` meets its contract: one test after the other.
-use mathlib.Core.Path.{_≡_, ap, ap₂, _∙_}
+use mathlib.Core.Path.{_≡_, ap, _∙_}
 use mathlib.Core.Bool.{Bool, _&&_}
 use lib.Dec.{eqb}
 use Rattle.graph.specs.Limits.{workspaceNumbers}
@@ -14,18 +14,15 @@ one-more u e f = e ∙ ap (λ (b : Bool). b && u) f
 
 returns : tie.Need-returns
 returns c =
-    let at-both3 = c .before .before .before .before in
-    let at-both2 = at-both3 .before .before in
+    let at-both2 = c .before .before .before .before in
     let at-both = at-both2 .before .before in
-    let at-index-numbers = at-both .before in
+    let at-index-numbers = at-both .before .before in
     let at-vertex-count = at-index-numbers .before .before in
     let a = at-vertex-count .before .args in
-    let n = at-vertex-count .vertex-count .ensures in
-    let inputs = at-both .both .ensures ∙ ap₂ (λ k i. eqb (a .bound) k && eqb (a .index) i) n (at-index-numbers .index-numbers .ensures) in
-    let marks = one-more (eqb (a .outputs .chosen) (a .s .edges)) (at-both2 .both2 .ensures) inputs in
-    let vertices = at-both3 .both3 .ensures ∙ ap (λ k. at-both2 .both2 .result && eqb (a .outputs .vertex) k) n in
-    one-more (eqb (a .outputs .workspace) workspaceNumbers) (c .both5 .ensures)
-    (one-more (eqb (a .outputs .edge) (a .s .edges)) (c .before .before .both4 .ensures) (one-more (eqb (a .outputs .vertex) (verticesIn (a .s))) vertices marks))
+    let marks = at-both .both .ensures ∙ ap (λ i. eqb (a .index) i && eqb (a .outputs .chosen) (a .s .edges)) (at-index-numbers .index-numbers .ensures) in
+    let vertices = at-both2 .both2 .ensures ∙ ap (λ k. at-both .both .result && eqb (a .outputs .vertex) k) (at-vertex-count .vertex-count .ensures) in
+    one-more (eqb (a .outputs .workspace) workspaceNumbers) (c .both4 .ensures)
+    (one-more (eqb (a .outputs .edge) (a .s .edges)) (c .before .before .both3 .ensures) (one-more (eqb (a .outputs .vertex) (verticesIn (a .s))) vertices marks))
 
 pub others-match-spec : {M : Type 1} → statement M
 others-match-spec =
@@ -33,7 +30,6 @@ others-match-spec =
     (tie.spec
     (λ c κs. search needs)
     (λ c. search needs)
-    (λ c κs. search needs)
     (λ c κs. search needs)
     (λ c κs. search needs)
     (λ c κs. search needs)

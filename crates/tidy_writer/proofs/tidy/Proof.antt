@@ -4,7 +4,11 @@ use native.Mathlib.Omega.{arith}
 use borrow.Author.Needs.{needs}
 use denote.Ref.{now}
 use lib.ListN.{length, length-take}
-use Rattle.tidy_writer.proofs.Answers.{Stored, stored-in, sheet-refused, refusal-written, text-written, nothing-written}
+use Rattle.report.specs.Programs.{tidyOutput}
+use Rattle.problem_reader.proofs.Kept.{graph-refused}
+use Rattle.problem_reader.proofs.Graphs.{GraphStored, graph-stored}
+use Rattle.problem_reader.proofs.Texts.{nothing-written, text-written, line-written}
+use Rattle.tidy_writer.proofs.Answers.{lentGraph, sheet-whole, writes}
 use Rattle.tidy_writer.proofs.tidy.Statement.{statement}
 use Rattle.tidy_writer.proofs.tidy.Tie as tie
 
@@ -19,17 +23,17 @@ long c = c .before .before .before .before .if1 .left
 stored : (c : tie.After-s) →
     let r = c .before .before .before .before .before in
     let d = r .read-graph in
-    Stored (now (begun r .args .sheet)) (c .s .given .0 .0) (d .last .1 .0) (d .last .1 .1 .0) (d .last .1 .1 .1 .0)
+    GraphStored (lentGraph (now (begun r .args .sheet))) (c .s .given .0 .0) (d .last .1 .0) (d .last .1 .1 .0) (d .last .1 .1 .1 .0)
 stored c =
     let r = c .before .before .before .before .before in
     let d = r .read-graph in
-    stored-in (now (begun r .args .sheet)) (d .ensures .0) (c .s .given .1) (d .ensures .1 .0) (d .ensures .1 .1 .0) (d .ensures .1 .1 .1)
+    graph-stored (sheet-whole (now (begun r .args .sheet))) (d .ensures .0) (c .s .given .1) (d .ensures .1 .0) (d .ensures .1 .1 .0) (d .ensures .1 .1 .1)
     (d .kept .1 .0) (d .kept .1 .1 .0) (d .kept .1 .1 .1 .0)
 
 returns : tie.Need-returns
 returns c =
     let a = c .before .before .before .before .before .before .before .args in
-    nothing-written (now (a .sheet)) (c .before .before .before .before .if1 .taken) (c .before .before .clear-bytes .ensures)
+    nothing-written (tidyOutput (now (a .sheet))) (c .before .before .before .before .if1 .taken) (c .before .before .clear-bytes .ensures)
 
 array-share-prefix-row : tie.Need-array-share-prefix-row
 array-share-prefix-row c = omega (arith, stored (c .before .before))
@@ -56,14 +60,15 @@ returns-2 : tie.Need-returns-2
 returns-2 c =
     let r = c .before .before .before .before .before .before .before .before .before .before in
     let sheet = now (begun r .args .sheet) in
-    let refused = sheet-refused sheet (r .read-graph .ensures .0) (c .before .before .before .before .before .refusal .given .1) in
-    refusal-written sheet refused (long r) (c .before .before .put-refused .ensures)
+    let refused = graph-refused (r .read-graph .ensures .0) (c .before .before .before .before .before .refusal .given .1) in
+    line-written (tidyOutput sheet) (writes sheet refused) (long r) (c .before .before .put-refused .ensures)
 
 returns-3 : tie.Need-returns-3
 returns-3 c =
     let r = c .before .before .before .before .before .before .before .before .before .before .before .before .before .before in
     let held = stored (c .before .before .before .before .before .before .before .before .before) in
-    text-written (now (begun r .args .sheet)) held (c .before .before .tidy-read .ensures)
+    let sheet = now (begun r .args .sheet) in
+    text-written (tidyOutput sheet) (writes sheet (held .same)) (c .before .before .tidy-read .ensures)
 
 pub tidy-spec : {M : Type 1} → statement M
 tidy-spec =

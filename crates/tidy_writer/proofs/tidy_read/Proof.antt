@@ -2,7 +2,8 @@
 use borrow.Author.Needs.{needs}
 use denote.Ref.{now}
 use Rattle.graph.specs.Graph.{Graph, graphOf}
-use Rattle.tidy_writer.proofs.Answers.{text-left, refusal-left}
+use Rattle.layout.specs.TidyText.{tidyGraph}
+use Rattle.problem_reader.proofs.Texts.{text-left, refusal-left}
 use Rattle.tidy_writer.proofs.tidy_read.Statement.{statement}
 use Rattle.tidy_writer.proofs.tidy_read.Tie as tie
 
@@ -14,13 +15,13 @@ returns : tie.Need-returns
 returns c =
     let s = c .before .before .before .before .before .before .before .before .before .before in
     let done = c .before .before .before .before .before .tidy-graph .ensures in
-    text-left (graph s) (s .pre) (done .0) (c .before .length .given .1) (done .1)
+    text-left (tidyGraph (graph s)) (s .pre) (done .0) (c .before .length .given .1) (done .1)
 
 returns-2 : tie.Need-returns-2
 returns-2 c =
     let s = c .before .before .before .before .before .before .before .before .before .before .before .before .before .before in
     let d = c .before .before .before .before .before .before .before .before .before .tidy-graph in
-    refusal-left (graph s) (s .pre) (d .ensures .0) (c .before .before .before .before .before .refusal .given .1) (d .kept .1 .1 .1 .1 .0) (c .before .before .put-refused .ensures)
+    refusal-left (tidyGraph (graph s)) (s .pre) (d .ensures .0) (c .before .before .before .before .before .refusal .given .1) (d .kept .1 .1 .1 .1 .0) (c .before .before .put-refused .ensures)
 
 pub tidy-read-spec : {M : Type 1} → statement M
 tidy-read-spec =

@@ -1,5 +1,6 @@
 //! Times the proved calls beside the separately written program, in one run. Buffers are cleared before each call.
 
+use compare::assignments::{Reading, Writing};
 use compare::graphs::Lent;
 use compare::indexes::{Building, Testing};
 use compare::measures::Measuring;
@@ -178,6 +179,43 @@ fn tidies() {
     }
 }
 
+fn assignments() {
+    for edges in [128, 256, 512, 1024] {
+        let inputs = problems(8, edges);
+        let ones = [1; 128];
+        let mut text = vec![0u8; 32_768];
+        let [ours, theirs] = [
+            proved::write_assignment,
+            reference::write_assignment as Writing,
+        ]
+        .map(|write| {
+            median(&inputs, |problem| {
+                text.fill(0);
+                black_box(write(&problem.graph.lend(), &ones, &mut text)).unwrap();
+            })
+        });
+        show(&format!("write an assignment, {edges} arcs"), ours, theirs);
+        let texts = inputs.iter().map(|problem| {
+            let length = reference::write_assignment(&problem.graph.lend(), &ones, &mut text);
+            text[..length.unwrap()].to_vec()
+        });
+        let texts: Vec<_> = texts.collect();
+        let mut out = (vec![0u32; 1024], vec![0u32; 1024], vec![0i32; 1024]);
+        let mut bound = vec![0; 128];
+        let [ours, theirs] = [
+            proved::read_assignment,
+            reference::read_assignment as Reading,
+        ]
+        .map(|read| {
+            median(&texts, |text| {
+                let (row, column, weight) = (&mut out.0, &mut out.1, &mut out.2);
+                black_box(read(text, row, column, weight, &mut bound)).unwrap();
+            })
+        });
+        show(&format!("read an assignment, {edges} arcs"), ours, theirs);
+    }
+}
+
 fn indexes() {
     for edges in [256, 512, 1024] {
         let inputs = problems(4, edges);
@@ -231,6 +269,7 @@ fn main() {
     number_readers();
     subgraph_readers();
     tidies();
+    assignments();
     measures();
     indexes();
     solvers();

@@ -1,7 +1,7 @@
 //! Compares the proved calls with the separately written program.
 
 use compare::tally::finish;
-use compare::{indexes, measures, readers, solves, spellings, tidies};
+use compare::{assignments, indexes, measures, readers, solves, spellings, tidies};
 
 fn main() {
     let mut results = readers::compare(2_026, 60_000);
@@ -10,5 +10,6 @@ fn main() {
     results.extend(indexes::compare(2_030, 40_000));
     results.extend(solves::compare(2_028, 32_000));
     results.extend(tidies::compare(2_033, 40_000));
+    results.extend(assignments::compare(2_035, 60_000));
     finish(&results);
 }

@@ -1,8 +1,8 @@
-//! Compares the built programs `solve`, `mark`, `rewrite` and `tidy` with the separately written program: `programs BIN_FOLDER [--valgrind]`.
+//! Compares the built programs with the separately written program: `programs BIN_FOLDER [--valgrind]`.
 
 use compare::runs::Built;
 use compare::tally::finish;
-use compare::{programs, rewrites, tidy_runs};
+use compare::{dimacs_runs, programs, rewrites, tidy_runs};
 use std::io;
 use std::path::Path;
 
@@ -11,6 +11,7 @@ fn compare(folder: &Path, valgrind: bool) -> io::Result<Vec<bool>> {
     let mut results = programs::compare(2_029, 3_000, &built)?;
     results.extend(rewrites::compare(2_032, 4_000, &built)?);
     results.extend(tidy_runs::compare(2_034, 4_000, &built)?);
+    results.extend(dimacs_runs::compare(2_036, 2_000, &built)?);
     Ok(results)
 }
 

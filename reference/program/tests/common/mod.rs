@@ -44,8 +44,15 @@ pub fn star(weights: &[i32]) -> OwnedGraph {
 
 /// The graph reader, with outputs of 1,024 numbers.
 pub fn graph_of(text: &[u8]) -> Result<OwnedGraph, Refusal> {
+    graph_by(|row, column, weight| read_graph(text, row, column, weight))
+}
+
+/// A reader of graphs, with three outputs of 1,024 numbers.
+fn graph_by(
+    read: impl FnOnce(&mut [u32], &mut [u32], &mut [i32]) -> Result<Head, Refusal>,
+) -> Result<OwnedGraph, Refusal> {
     let (mut row, mut column, mut weight) = ([7; 1024], [7; 1024], [7; 1024]);
-    match read_graph(text, &mut row, &mut column, &mut weight) {
+    match read(&mut row, &mut column, &mut weight) {
         Ok(head) => {
             let m = head.edges as usize;
             assert!(row[m..].iter().chain(&column[m..]).all(|&x| x == 0));
@@ -121,6 +128,22 @@ pub fn written(graph: &Graph, chosen: &[u8]) -> Result<Vec<u8>, Refusal> {
 /// The tidy text of a graph, with an output of 32,768 bytes.
 pub fn tidied(graph: &Graph) -> Result<Vec<u8>, Refusal> {
     text_of(32_768, |out| tidy_graph(graph, out))
+}
+
+/// The assignment writer, with an output of 32,768 bytes.
+pub fn assigned(graph: &Graph, bound: &[i32]) -> Result<Vec<u8>, Refusal> {
+    text_of(32_768, |out| write_assignment(graph, bound, out))
+}
+
+/// The assignment reader, with three outputs of 1,024 numbers and one of 128.
+pub fn assignment_of(text: &[u8]) -> Result<OwnedGraph, Refusal> {
+    let mut bound = [7; 128];
+    let graph =
+        graph_by(|row, column, weight| read_assignment(text, row, column, weight, &mut bound));
+    let n = graph.as_ref().map_or(0, |graph| vertices(&graph.lend()));
+    assert!(bound[..n].iter().all(|&x| x == 1));
+    assert!(bound[n..].iter().all(|&x| x == 0));
+    graph
 }
 
 /// Building an index, with an output of the length that the numbers passed give.
@@ -259,7 +282,7 @@ pub fn measures(line: [i64; 7]) -> Measures {
     }
 }
 
-/// Tests that all seven calls that take a graph refuse it so, given other
+/// Tests that all eight calls that take a graph refuse it so, given other
 /// numbers of right lengths.
 pub fn all_refuse(graph: &Graph, expected: Refusal) {
     let (n, m) = (vertices(graph), graph.edges as usize);
@@ -268,6 +291,7 @@ pub fn all_refuse(graph: &Graph, expected: Refusal) {
     assert_eq!(subgraph_of(b"", graph), Err(expected));
     assert_eq!(written(graph, &chosen), Err(expected));
     assert_eq!(tidied(graph), Err(expected));
+    assert_eq!(assigned(graph, &bound), Err(expected));
     assert_eq!(built(graph), Err(expected));
     let index = index_or_zeros(graph);
     assert_eq!(test_index(graph, &index), Err(expected));

@@ -1,0 +1,4 @@
+pub mod Fits
+pub mod Written
+pub mod Back
+pub mod Passes

@@ -1,0 +1,63 @@
+-- `next_coordinate` finds the next line that counts, and says what it is.
+use Rattle.lines.proofs.Walk.{later-found}
+use Rattle.edge_reader.proofs.Next.{weight-ranged, coordinates-end, coordinates-refused, coordinates-line}
+use borrow.Author.Needs.{needs}
+use Rattle.edge_reader.proofs.next_coordinate.Statement.{statement}
+use Rattle.edge_reader.proofs.next_coordinate.Tie as tie
+
+sub-edge-on : tie.Need-sub-edge-on
+sub-edge-on c =
+    let later-line = c .before .before .before .later-line in
+    later-found (later-line .ensures) (c .before .start .given .1) .0 .forward
+
+part-edge-on-start : tie.Need-part-edge-on-start
+part-edge-on-start c =
+    let later-line = c .before .before .before .later-line in
+    later-found (later-line .ensures) (c .before .start .given .1) .0 .forward
+
+part-edge-on-end : tie.Need-part-edge-on-end
+part-edge-on-end c =
+    let later-line = c .before .before .before .later-line in
+    later-found (later-line .ensures) (c .before .start .given .1) .0 .ends
+
+brings-requires : tie.Need-brings-requires
+brings-requires c κs =
+    let args = c .before .before .before .before .before .before .before .args in
+    weight-ranged (args .s) (c .edge-on .result) (c .edge-on .ensures .1)
+
+returns : tie.Need-returns
+returns c =
+    let at-later-line = c .before .before in
+    let args = at-later-line .before .before .args in
+    coordinates-end (args .rules) (args .field) (at-later-line .later-line .ensures) (args .s) (c .enum-told .given .1)
+
+returns-2 : tie.Need-returns-2
+returns-2 c =
+    let at-later-line = c .before .before .before in
+    let args = at-later-line .before .before .args in
+    coordinates-refused (args .rules) (args .field) (at-later-line .later-line .ensures) (args .s) (c .before .r .given .1)
+
+returns-3 : tie.Need-returns-3
+returns-3 c =
+    let at-start = c .before .before .before .before in
+    let at-later-line = at-start .before .before in
+    let args = at-later-line .before .before .args in
+    coordinates-line (args .rules) (args .field) (at-later-line .later-line .ensures) (args .s) (at-start .start .given .1)
+    (c .before .edge-on .result) (c .before .edge-on .ensures .0) (c .before .edge-on .ensures .1) (c .brings .ensures)
+
+pub next-coordinate-spec : {M : Type 1} → statement M
+next-coordinate-spec =
+    tie.close
+    (tie.spec
+    (λ c κs. search needs)
+    (λ c. search needs)
+    (λ c. search needs)
+    (λ c. search needs)
+    sub-edge-on
+    part-edge-on-start
+    part-edge-on-end
+    (λ c κs. search needs)
+    brings-requires
+    returns
+    returns-2
+    returns-3)
