@@ -1,3 +1,3 @@
--- The laws of the three loops that list the edges of positive weight.
+-- The laws of the loops that list the kept edges and begin the lists of the column vertices.
 pub mod Row
 pub mod Rows

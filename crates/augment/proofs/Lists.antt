@@ -1,5 +1,5 @@
 -- What one step of the walk back does to the lists of chosen edges.
-use Prim.Native.Nat.{ℕ, _+_, _-_, _≤_, _<_}
+use Prim.Native.Nat.{ℕ, _+_, _≤_, _<_}
 use mathlib.Core.Path.{_≡_, sym, ap, _∙_, subst}
 use mathlib.Core.Logic.{_≢_}
 use mathlib.Core.List.{List}
@@ -55,7 +55,7 @@ module _ {g : Graph} {x : List ℕ} {used list place : ℕ → ℕ} (n : Columns
 
     pub widened : Listing g x used′ list place gap
     widened = record {
-      holds = λ c k a b m o. let m′ = before m o in t .holds c k a b m′ (among-somewhere (t .fits) a b m′);
+      holds = λ c k a b m o. let m′ = before m o in t .holds c k a b m′ (among-somewhere (t .fits) a b m′ n);
       held = λ e l o. stands e l (t .held e l o);
       fits = fits′;
     }
@@ -66,7 +66,7 @@ module _ {g : Graph} {x : List ℕ} {used list place : ℕ → ℕ} (n : Columns
     stands-now : Stands g used list′ place′ (nowhere g) e
     stands-now =
         let among : Among g used (secondEnd g e) (place′ e) = record { from = omega (arith, places .at, m .from); to = omega (arith, places .at, m .to) } in
-        record { among = among; apart = among-somewhere (t .fits) (n .from e l) (n .to e l) among; is = ap list′ (places .at) ∙ puts .at }
+        record { among = among; apart = among-somewhere (t .fits) (n .from e l) (n .to e l) among n; is = ap list′ (places .at) ∙ puts .at }
 
     stands-still : (d : ℕ) → d < g .edges → d ≢ e → Stands g used list place hole d → Stands g used list′ place′ (nowhere g) d
     stands-still d b q h =
@@ -74,7 +74,7 @@ module _ {g : Graph} {x : List ℕ} {used list place : ℕ → ℕ} (n : Columns
         let among : Among g used (secondEnd g d) (place′ d) = record { from = omega (arith, there, h .among .from); to = omega (arith, there, h .among .to) } in
         record {
           among = among;
-          apart = among-somewhere (t .fits) (n .from d b) (n .to d b) among;
+          apart = among-somewhere (t .fits) (n .from d b) (n .to d b) among n;
           is = ap list′ there ∙ puts .other (place d) (h .apart) ∙ h .is;
         }
 
@@ -83,7 +83,7 @@ module _ {g : Graph} {x : List ℕ} {used list place : ℕ → ℕ} (n : Columns
     pub unlisted : Put (markAt x) (markAt y) e 0 → markAt x e ≡ 1 → Listing g x used list place (nowhere g) → Listing g y used list place (place e)
     unlisted p o t = record {
       holds = λ c k a b m away.
-          let i = t .holds c k a b m (among-somewhere (t .fits) a b m) in
+          let i = t .holds c k a b m (among-somewhere (t .fits) a b m n) in
           let other : list k ≢ e = λ q. away (sym (i .back) ∙ ap place q) in
           record { inside = i .inside; mark = p .other (list k) other ∙ i .mark; column = i .column; back = i .back };
       held = λ d b z.

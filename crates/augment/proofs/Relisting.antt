@@ -92,7 +92,7 @@ module _ {s : Shape} {root u left : ℕ} {row column label y : List ℕ} {rank :
       | yes l ↦ absurd (omega (arith, z, row-link r ne l .mark))
       | no l ↦
           let a : g .rows ≤ u = omega (arith, l) in
-          omega (arith, among-below (t .at-column a .fits) a (r .inside) (t .hole-in a), t .list-long)
+          omega (arith, among-below (t .at-column a .fits) a (r .inside) (t .hole-in a) cols, t .list-long)
     ]
 
     module _ {w hole′ : ℕ} {z place′ : List ℕ} {list′ : List ℤ} (f : z ≡ flipped y edge) (o : w ≡ otherEnd g edge u)

@@ -13,7 +13,7 @@ use Rattle.integers.specs.Sum.{sum}
 use Rattle.integers.proofs.Sum.{sum-cong, sum-split, sum-none}
 use Rattle.graph.specs.Graph.{some?}
 use Rattle.graph.proofs.Passing.{some-none, none-some, some-yes, yes-some}
-use Rattle.dual.specs.Prices.{bit, one}
+use Rattle.dual.specs.Sets.{bit, one}
 use Rattle.bits.specs.Word.{bitOf}
 use Rattle.bits.proofs.Word.{popcount, low-bit, ones-most}
 

@@ -15,7 +15,7 @@ use Rattle.integers.specs.Sum.{sum}
 use Rattle.integers.proofs.Sum.{sum-cong, sum-split, sum-mono, sum-const}
 use Rattle.graph.specs.Graph.{some?}
 use Rattle.graph.proofs.Passing.{some-cong}
-use Rattle.dual.specs.Prices.{one}
+use Rattle.dual.specs.Sets.{one}
 use Rattle.bits.specs.Word.{bitOf}
 
 -- ---- marks as numbers

@@ -4,7 +4,7 @@ ghost use mathlib.Core.Path.{_≡_};
 ghost use lib.ListN.{length};
 ghost use Rattle.integers.specs.Sum.{sum};
 ghost use Rattle.graph.specs.Graph.{some?};
-ghost use Rattle.dual.specs.Prices.{bit, one};
+ghost use Rattle.dual.specs.Sets.{bit, one};
 ghost use Rattle.bits.specs.Word.{bitOf};
 
 // The bits of a word.

@@ -63,7 +63,7 @@ claim c (line s) e =
     (y .0, y .1, list-eq eqb eqb-true (measuredLine (y .0)) (bytes s ++ (10 ∷ [])) (y .2))
 claim c (gap z) e =
     let y = yields-eq (λ (m : Measures). sameℤ (m .gap) z) (measuring c) e in (y .0, y .1, same-eq (y .0 .gap) z (y .2))
-claim c (capacityOf s q) e = eqb-true (capacity (c .graph) (c .bound) (c .prices) s) q e
+claim c (capacityOf s q) e = eqb-true (capacity (c .graph) (c .bound) (c .prices .marks) s) q e
 claim c taken e = let y = yields-eq (λ (m : Measures). true) (measuring c) e in (y .0, y .1)
 claim c (refused n p) e = refused-eq (measuring c) n p e
 claim c solved e = yields-eq (λ (u : Unit {0}). true) (solving c) e .1

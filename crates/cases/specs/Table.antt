@@ -17,7 +17,7 @@ use Rattle.layout.specs.Text.{bytes, unlines}
 use Rattle.layout.specs.GraphText.{readGraph}
 use Rattle.layout.specs.NumberText.{readNumbers}
 use Rattle.dual.specs.declared.Measures.{Measures}
-use Rattle.dual.specs.Prices.{Prices}
+use Rattle.dual.specs.Prices.{Prices, pricesOf}
 use Rattle.dual.specs.Sets.{capacity}
 use Rattle.dual.specs.Measure.{measure}
 use Rattle.dual.specs.Solve.{solve, withoutSets}
@@ -78,7 +78,7 @@ States c (largest w) = (x : List ℕ) × Optimal (c .graph) (c .bound) x × (wei
 States c optimal = Optimal (c .graph) (c .bound) (c .chosen)
 States c (line s) = (m : Measures) × (measuring c ≡ yields m) × (measuredLine m ≡ bytes s ++ (10 ∷ []))
 States c (gap z) = (m : Measures) × (measuring c ≡ yields m) × (m .gap ≡ z)
-States c (capacityOf s q) = capacity (c .graph) (c .bound) (c .prices) s ≡ q
+States c (capacityOf s q) = capacity (c .graph) (c .bound) (c .prices .marks) s ≡ q
 States c taken = (m : Measures) × (measuring c ≡ yields m)
 States c (refused n p) = told (measuring c) ≡ refusedWith n p
 States c solved = solving c ≡ yields tt
@@ -104,14 +104,7 @@ general n row column weight = graphOf (record { kind = General; rows = n; column
 
 -- Prices with one odd set: its price, its first word of vertices and its first word of edges.
 abbrev withSet : List ℤ → List ℤ → ℤ → ℕ → ℕ → Prices
-withSet vertex edge price vertices edges = record {
-  vertex = vertex;
-  edge = edge;
-  sets = 1;
-  set = price ∷ [];
-  setVertices = vertices ∷ 0 ∷ [];
-  setEdges = edges ∷ replicate 15 0;
-}
+withSet vertex edge price vertices edges = pricesOf vertex edge 1 (price ∷ []) (vertices ∷ 0 ∷ []) (edges ∷ replicate 15 0)
 
 -- The sheet of the worked example, one edge of weight w, and three families with all pairs of merit 1.
 abbrev square : Graph

@@ -1,5 +1,6 @@
-pub mod Prices
 pub mod Sets
+pub mod Prices
 pub mod Gap
 pub mod Measure
 pub mod Solve
+pub mod Passed

@@ -14,8 +14,8 @@ use Rattle.graph.specs.Tests.{graphLengths, graphTests, boundTest, markTest, de
 use Rattle.dual.specs.declared.Measures.{Measures}
 use Rattle.dual.specs.declared.MeasureAnswer.{MeasureAnswer}
 use Rattle.dual.specs.declared.MeasureAnswer.the-variants as MeasureAnswer
-use Rattle.dual.specs.Prices.{Prices, allPrices}
 use Rattle.dual.specs.Sets.{keepsRules}
+use Rattle.dual.specs.Prices.{Prices, allPrices}
 use Rattle.dual.specs.Gap.{covered, totalOf, gapOf, vertexSlack, setSlack, edgeSlack, coverSlack}
 
 -- The seven numbers of a subgraph measured against a price sheet: its weight in points, and the others in half points.
@@ -35,7 +35,7 @@ abbrev pub measureLengths : Graph → List ℤ → List ℕ → Prices → Bool
 measureLengths g bound x P =
     graphLengths g && eqb (length bound) (vertices g) && eqb (length x) (g .edges)
     && eqb (length (P .vertex)) (vertices g) && eqb (length (P .edge)) (g .edges) && eqb (length (P .set)) (P .sets)
-    && eqb (length (P .setVertices)) (vertexWords * P .sets) && eqb (length (P .setEdges)) (edgeWords * P .sets)
+    && eqb (length (P .marks .vertices)) (vertexWords * P .sets) && eqb (length (P .marks .edges)) (edgeWords * P .sets)
 
 -- Each price in range (13).
 abbrev pub priceTest : Prices → Test
@@ -43,7 +43,7 @@ priceTest P = each Price (length (allPrices P)) (λ k. priceInRange (getD (allPr
 
 -- Each odd set keeps the rules, and there are at most 16 (14): a 17th is refused at place 17.
 abbrev pub setTest : Graph → List ℤ → Prices → Test
-setTest g bound P = each OddSet (min (P .sets) (mostSets + 1)) (λ s. ltb s mostSets && keepsRules g bound P s)
+setTest g bound P = each OddSet (min (P .sets) (mostSets + 1)) (λ s. ltb s mostSets && keepsRules g bound (P .marks) s)
 
 -- Each edge is covered (15).
 abbrev pub coverTest : Graph → Prices → Test

@@ -17,7 +17,7 @@ use Rattle.graph.specs.Tests.{graphLengths, graphTests, boundTest, kindTest}
 use Rattle.graph.specs.Index.{indexNumbers, indexTest}
 use Rattle.dual.specs.declared.SolveAnswer.{SolveAnswer}
 use Rattle.dual.specs.declared.SolveAnswer.the-variants as SolveAnswer
-use Rattle.dual.specs.Prices.{Prices, vertexPrice, edgePrice}
+use Rattle.dual.specs.Prices.{Prices, pricesOf, vertexPrice, edgePrice}
 use Rattle.dual.specs.Gap.{halfPoints, worthAt, coverOf, gapOf}
 
 -- The lengths of the outputs that are lent to the solver: marks, vertex prices, edge prices and the workspace (scratch).
@@ -29,6 +29,15 @@ pub record Lent : Type 0 where
 
 abbrev pub lentOf : ℕ → ℕ → ℕ → ℕ → Lent
 lentOf chosen vertex edge workspace = record { chosen = chosen; vertexPrices = vertex; edgePrices = edge; workspace = workspace }
+
+-- What the solver hands out: the marks of the edges, those that it chose, and the prices of vertices and of edges.
+pub record Outputs : Type 0 where
+  pub chosen : List ℕ
+  pub vertexPrices : List ℤ
+  pub edgePrices : List ℤ
+
+abbrev pub outputsOf : List ℕ → List ℤ → List ℤ → Outputs
+outputsOf chosen vertex edge = record { chosen = chosen; vertexPrices = vertex; edgePrices = edge }
 
 -- What is lent, the index too, has just the lengths that the numbers of vertices and of edges give, and the workspace its own (9).
 abbrev pub solveLengths : Graph → List ℤ → List ℕ → Lent → Bool
@@ -50,9 +59,13 @@ abbrev pub solveSays : SolveAnswer → Told (Unit {0})
 solveSays SolveAnswer.Solved = tells tt
 solveSays (SolveAnswer.Refused r) = refusedWith (numberOf (r .fault)) (r .place)
 
--- The solver's prices: of vertices and edges, and no odd sets.
+-- A price sheet of vertices and edges, and no odd sets.
 abbrev pub withoutSets : List ℤ → List ℤ → Prices
-withoutSets vertex edge = record { vertex = vertex; edge = edge; sets = 0; set = []; setVertices = []; setEdges = [] }
+withoutSets vertex edge = pricesOf vertex edge 0 [] [] []
+
+-- The solver's prices have no odd sets.
+abbrev pub solverPrices : Outputs → Prices
+solverPrices S = withoutSets (S .vertexPrices) (S .edgePrices)
 
 -- A price of the solver's is from 0 to 2,000,000 half points and even: a number of points in half points.
 pub record SolverPrice (z : ℤ) : Type 0 where
@@ -63,24 +76,24 @@ pub record SolverPrice (z : ℤ) : Type 0 where
 
 -- What holds of the solver's answer, whose subgraph and prices are its own choice: the subgraph is optimal, the prices are even, in range and cover
 -- every edge, and the gap is 0.
-pub record Solved (g : Graph) (bound : List ℤ) (x : List ℕ) (vertex edge : List ℤ) : Type 0 where
-  pub optimal : Optimal g bound x
-  pub vertexRange : (v : ℕ) → v < vertices g → SolverPrice (vertexPrice (withoutSets vertex edge) v)
-  pub edgeRange : (e : ℕ) → e < g .edges → SolverPrice (edgePrice (withoutSets vertex edge) e)
-  pub covering : (e : ℕ) → e < g .edges → worthAt g e ≤ℤ coverOf g (withoutSets vertex edge) e
-  pub noGap : gapOf g bound x (withoutSets vertex edge) ≡ pos 0
+pub record Solved (g : Graph) (bound : List ℤ) (S : Outputs) : Type 0 where
+  pub optimal : Optimal g bound (S .chosen)
+  pub vertexRange : (v : ℕ) → v < vertices g → SolverPrice (vertexPrice (solverPrices S) v)
+  pub edgeRange : (e : ℕ) → e < g .edges → SolverPrice (edgePrice (solverPrices S) e)
+  pub covering : (e : ℕ) → e < g .edges → worthAt g e ≤ℤ coverOf g (solverPrices S) e
+  pub noGap : gapOf g bound (S .chosen) (solverPrices S) ≡ pos 0
 
 -- Every mark and price is 0.
-pub record Zero (lent : Lent) (x : List ℕ) (vertex edge : List ℤ) : Type 0 where
-  pub marks : x ≡ replicate (lent .chosen) 0
-  pub vertices : vertex ≡ replicate (lent .vertexPrices) (pos 0)
-  pub edges : edge ≡ replicate (lent .edgePrices) (pos 0)
+pub record Zero (lent : Lent) (S : Outputs) : Type 0 where
+  pub marks : S .chosen ≡ replicate (lent .chosen) 0
+  pub vertices : S .vertexPrices ≡ replicate (lent .vertexPrices) (pos 0)
+  pub edges : S .edgePrices ≡ replicate (lent .edgePrices) (pos 0)
 
 -- What the solver leaves: where it accepts the graph, a solution, and where it refuses only zeros; and the workspace holds zeros. All is as long as before.
-pub record Left (g : Graph) (bound : List ℤ) (index : List ℕ) (lent : Lent) (x : List ℕ) (vertex edge workspace : List ℤ) : Type 0 where
-  pub solved : solve g bound index lent ≡ yields tt → Solved g bound x vertex edge
-  pub refused : (fault : Fault) (place : ℕ) → solve g bound index lent ≡ refuses fault place → Zero lent x vertex edge
+pub record Left (g : Graph) (bound : List ℤ) (index : List ℕ) (lent : Lent) (S : Outputs) (workspace : List ℤ) : Type 0 where
+  pub solved : solve g bound index lent ≡ yields tt → Solved g bound S
+  pub refused : (fault : Fault) (place : ℕ) → solve g bound index lent ≡ refuses fault place → Zero lent S
   pub cleared : workspace ≡ replicate (lent .workspace) (pos 0)
-  pub chosenLong : length x ≡ lent .chosen
-  pub vertexLong : length vertex ≡ lent .vertexPrices
-  pub edgeLong : length edge ≡ lent .edgePrices
+  pub chosenLong : length (S .chosen) ≡ lent .chosen
+  pub vertexLong : length (S .vertexPrices) ≡ lent .vertexPrices
+  pub edgeLong : length (S .edgePrices) ≡ lent .edgePrices

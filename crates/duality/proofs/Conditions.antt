@@ -20,5 +20,5 @@ pub record DualFeasible (g : Graph) (bound : List ℤ) (P : Prices) : Type 0 whe
   pub vertexPrices : (v : ℕ) → v < vertices g → pos 0 ≤ℤ vertexPrice P v
   pub edgePrices : (e : ℕ) → e < g .edges → pos 0 ≤ℤ edgePrice P e
   pub setPrices : (s : ℕ) → s < P .sets → pos 0 ≤ℤ setPrice P s
-  pub rules : (s : ℕ) → s < P .sets → keepsRules g bound P s ≡ true
+  pub rules : (s : ℕ) → s < P .sets → keepsRules g bound (P .marks) s ≡ true
   pub covering : (e : ℕ) → e < g .edges → worthAt g e ≤ℤ coverOf g P e

@@ -13,7 +13,7 @@ use Rattle.integers.proofs.Order.{up-add, up-diff, order, nonneg, times-nonneg,
 use Rattle.integers.proofs.Diff.{diff-self, diff-add, diff-sub, diff-times, diff-eq, times-add}
 use Rattle.integers.proofs.Sum.{sum-mono, sum-add, sum-cong, sum-scale, sumℤ-cong, sumℤ-add, sumℤ-diff, sumℤ-scale, sumℤ-swap, sumℤ-at, sumℤ-none}
 use Rattle.integers.proofs.Sum.{sumℤ-nonneg, sumℤ-pos}
-use Rattle.dual.specs.Prices.{one}
+use Rattle.dual.specs.Sets.{one}
 
 -- ---- products
 
@@ -119,12 +119,18 @@ coverOfIn D e =
     D .vertexPrice (D .first e) +ℤ D .vertexPrice (D .second e) +ℤ D .edgePrice e
     +ℤ sumℤ (D .sets) (λ s. pos (D .covers s e) *ℤ D .setPrice s)
 
+abbrev payIn : Program → ℕ → ℤ
+payIn D v = D .bound v *ℤ D .vertexPrice v
+
 abbrev pub totalOfIn : Program → ℤ
 totalOfIn D =
-    sumℤ (D .vertices) (λ v. D .bound v *ℤ D .vertexPrice v) +ℤ sumℤ (D .sets) (λ s. D .capacity s *ℤ D .setPrice s) +ℤ sumℤ (D .edges) (D .edgePrice)
+    sumℤ (D .vertices) (payIn D) +ℤ sumℤ (D .sets) (λ s. D .capacity s *ℤ D .setPrice s) +ℤ sumℤ (D .edges) (D .edgePrice)
+
+abbrev vertexSlackAtIn : Program → (ℕ → ℕ) → ℕ → ℤ
+vertexSlackAtIn D x v = D .vertexPrice v *ℤ (D .bound v -ℤ pos (degreeIn D x v))
 
 abbrev pub vertexSlackIn : Program → (ℕ → ℕ) → ℤ
-vertexSlackIn D x = sumℤ (D .vertices) (λ v. D .vertexPrice v *ℤ (D .bound v -ℤ pos (degreeIn D x v)))
+vertexSlackIn D x = sumℤ (D .vertices) (vertexSlackAtIn D x)
 
 abbrev pub setSlackIn : Program → (ℕ → ℕ) → ℤ
 setSlackIn D x = sumℤ (D .sets) (λ s. D .setPrice s *ℤ (D .capacity s -ℤ pos (chosenCoveredIn D x s)))
@@ -154,10 +160,10 @@ edgesPaid D x = sumℤ (D .edges) (λ e. pos (x e) *ℤ D .edgePrice e)
 -- The gap is the sum of the four slacks.
 module _ (D : Program) (firstIn : (e : ℕ) → e < D .edges → D .first e < D .vertices) (secondIn : (e : ℕ) → e < D .edges → D .second e < D .vertices)
     (x : ℕ → ℕ) (marks : (e : ℕ) → e < D .edges → x e ≤ 1) where
-  of-vertices : vertexSlackIn D x ≡ sumℤ (D .vertices) (λ v. D .bound v *ℤ D .vertexPrice v) -ℤ endsPaid D x
+  of-vertices : vertexSlackIn D x ≡ sumℤ (D .vertices) (payIn D) -ℤ endsPaid D x
   of-vertices =
       slack (D .vertices) (D .edges) (ends (D .first) (D .second)) x (D .vertexPrice) (D .bound)
-      ∙ ap (λ z. sumℤ (D .vertices) (λ v. D .bound v *ℤ D .vertexPrice v) -ℤ z)
+      ∙ ap (λ z. sumℤ (D .vertices) (payIn D) -ℤ z)
       (by-ends (D .vertices) (D .edges) (D .first) (D .second) firstIn secondIn x (D .vertexPrice))
 
   of-edges : edgeSlackIn D x ≡ sumℤ (D .edges) (D .edgePrice) -ℤ edgesPaid D x
@@ -183,7 +189,7 @@ module _ (D : Program) (firstIn : (e : ℕ) → e < D .edges → D .first e < D 
   pub slacks-add : totalOfIn D -ℤ weightOfIn D x ≡ vertexSlackIn D x +ℤ setSlackIn D x +ℤ edgeSlackIn D x +ℤ coverSlackIn D x
   slacks-add =
       cancel
-      (sumℤ (D .vertices) (λ v. D .bound v *ℤ D .vertexPrice v))
+      (sumℤ (D .vertices) (payIn D))
       (sumℤ (D .sets) (λ s. D .capacity s *ℤ D .setPrice s))
       (sumℤ (D .edges) (D .edgePrice))
       (endsPaid D x)
@@ -202,7 +208,7 @@ module _ (D : Program) (firstIn : (e : ℕ) → e < D .edges → D .first e < D 
           (omega arith)
 
   -- Complementary slackness: where no item has slack, there is no gap.
-  pub complementary : ((v : ℕ) → v < D .vertices → D .vertexPrice v *ℤ (D .bound v -ℤ pos (degreeIn D x v)) ≡ pos 0) →
+  pub complementary : ((v : ℕ) → v < D .vertices → vertexSlackAtIn D x v ≡ pos 0) →
       ((s : ℕ) → s < D .sets → D .setPrice s *ℤ (D .capacity s -ℤ pos (chosenCoveredIn D x s)) ≡ pos 0) →
       ((e : ℕ) → e < D .edges → pos (1 - x e) *ℤ D .edgePrice e ≡ pos 0) →
       ((e : ℕ) → e < D .edges → pos (x e) *ℤ (coverOfIn D e -ℤ D .weight e) ≡ pos 0) → totalOfIn D -ℤ weightOfIn D x ≡ pos 0

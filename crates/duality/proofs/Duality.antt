@@ -11,9 +11,9 @@ use Rattle.integers.specs.Sum.{sumℤ}
 use Rattle.integers.proofs.Order.{up-diff, up-times, order}
 use Rattle.graph.specs.Graph.{Graph, vertices, firstEnd, secondEnd, weightAt, boundAt}
 use Rattle.graph.specs.Subgraph.{Feasible, Optimal, markAt, degree, weightOf, lacks}
-use Rattle.dual.specs.Prices.{Prices, vertexPrice, edgePrice, setPrice, inside, marked, one}
-use Rattle.dual.specs.Sets.{keepsRules, covers, capacity}
-use Rattle.dual.specs.Gap.{halfPoints, worthAt, coverOf, totalOf, gapOf, vertexSlack, setSlack, edgeSlack, coverSlack, chosenCovered}
+use Rattle.dual.specs.Prices.{Prices, vertexPrice, edgePrice, setPrice}
+use Rattle.dual.specs.Sets.{OddSets, inside, marked, one, keepsRules, covers, capacity}
+use Rattle.dual.specs.Gap.{halfPoints, worthAt, coverOf, totalOf, gapOf, vertexSlackAt, vertexSlack, setSlack, edgeSlack, coverSlack, chosenCovered}
 use Rattle.duality.proofs.Conditions.{Incident, DualFeasible}
 use Rattle.duality.proofs.HalfPoints.{half-self, half-times, half-sum}
 use Rattle.duality.proofs.Passed.{one-end}
@@ -35,8 +35,8 @@ program g bound P = record {
   second = secondEnd g;
   weight = worthAt g;
   bound = boundAt bound;
-  capacity = λ s. pos (capacity g bound P s);
-  covers = λ s e. one (covers g P s e);
+  capacity = λ s. pos (capacity g bound (P .marks) s);
+  covers = λ s e. one (covers g (P .marks) s e);
   vertexPrice = vertexPrice P;
   setPrice = setPrice P;
   edgePrice = edgePrice P;
@@ -54,21 +54,21 @@ slacks-add {g} E bound x P marks = gap-worth g bound x P ∙ core.slacks-add (pr
 
 -- Complementary slackness: where no vertex, odd set, edge or cover has slack, there is no gap.
 pub complementary : {g : Graph} → Incident g → (bound : List ℤ) (x : List ℕ) (P : Prices) → ((e : ℕ) → e < g .edges → markAt x e ≤ 1) →
-    ((v : ℕ) → v < vertices g → vertexPrice P v *ℤ (boundAt bound v -ℤ pos (degree g x v)) ≡ pos 0) →
-    ((s : ℕ) → s < P .sets → setPrice P s *ℤ (pos (capacity g bound P s) -ℤ pos (chosenCovered g x P s)) ≡ pos 0) →
+    ((v : ℕ) → v < vertices g → vertexSlackAt bound P v (degree g x v) ≡ pos 0) →
+    ((s : ℕ) → s < P .sets → setPrice P s *ℤ (pos (capacity g bound (P .marks) s) -ℤ pos (chosenCovered g x (P .marks) s)) ≡ pos 0) →
     ((e : ℕ) → e < g .edges → pos (1 - markAt x e) *ℤ edgePrice P e ≡ pos 0) →
     ((e : ℕ) → e < g .edges → pos (markAt x e) *ℤ (coverOf g P e -ℤ worthAt g e) ≡ pos 0) → gapOf g bound x P ≡ pos 0
 complementary {g} E bound x P marks v s e c =
     gap-worth g bound x P ∙ core.complementary (program g bound P) (E .first) (E .second) (markAt x) marks v s e c
 
 -- No feasible subgraph chooses more than an odd set's capacity of the edges that it covers.
-pub within-capacity : {g : Graph} {bound : List ℤ} {x : List ℕ} → Incident g → Feasible g bound x → (P : Prices) (s : ℕ) → keepsRules g bound P s ≡ true →
-    chosenCovered g x P s ≤ capacity g bound P s
-within-capacity {g} {bound} {x} E F P s k =
+pub within-capacity : {g : Graph} {bound : List ℤ} {x : List ℕ} → Incident g → Feasible g bound x → (O : OddSets) (s : ℕ) → keepsRules g bound O s ≡ true →
+    chosenCovered g x O s ≤ capacity g bound O s
+within-capacity {g} {bound} {x} E F O s k =
     omega (
       arith,
       covered-load (vertices g) (g .edges) (firstEnd g) (secondEnd g) (E .first) (E .second) (markAt x) (F .marks)
-          (λ v. up (boundAt bound v)) (λ v l. omega (order, F .within v l)) (inside P s) (marked P s) (one-end g bound P s k),
+          (λ v. up (boundAt bound v)) (λ v l. omega (order, F .within v l)) (inside O s) (marked O s) (one-end g bound O s k),
     )
 
 -- Each slack of a feasible subgraph against dual feasible prices is at least 0.
@@ -76,8 +76,8 @@ module _ {g : Graph} {bound : List ℤ} {x : List ℕ} {P : Prices} (F : Feasibl
   pub vertex-slack-nonneg : pos 0 ≤ℤ vertexSlack g bound x P
   vertex-slack-nonneg = core.vertex-slack-nonneg (program g bound P) (markAt x) (D .vertexPrices) (F .within)
 
-  set-within : Incident g → (s : ℕ) → s < P .sets → pos (chosenCovered g x P s) ≤ℤ pos (capacity g bound P s)
-  set-within E s l = omega (order, within-capacity E F P s (D .rules s l))
+  set-within : Incident g → (s : ℕ) → s < P .sets → pos (chosenCovered g x (P .marks) s) ≤ℤ pos (capacity g bound (P .marks) s)
+  set-within E s l = omega (order, within-capacity E F (P .marks) s (D .rules s l))
 
   pub set-slack-nonneg : Incident g → pos 0 ≤ℤ setSlack g bound x P
   set-slack-nonneg E = core.set-slack-nonneg (program g bound P) (markAt x) (D .setPrices) (set-within E)

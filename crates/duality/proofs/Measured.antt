@@ -14,7 +14,7 @@ use Rattle.dual.specs.declared.Measures.{Measures}
 use Rattle.dual.specs.Prices.{Prices}
 use Rattle.dual.specs.Gap.{halfPoints, totalOf, gapOf}
 use Rattle.dual.specs.Measure.{measure, measures}
-use Rattle.dual.specs.Solve.{Lent, solve, Solved, SolverPrice, withoutSets}
+use Rattle.dual.specs.Solve.{Lent, Outputs, solve, solverPrices, SolverPrice, Solved, Left}
 use Rattle.duality.proofs.Conditions.{Incident, DualFeasible}
 use Rattle.duality.specs.Meaning.{Meaning, Certified}
 use Rattle.duality.proofs.Passed.{passed-incident, PriceRange, Priced, priced-dual, measure-passed, measure-takes, solve-passed}
@@ -62,7 +62,7 @@ measured {g} {bound} {x} {P} {M} e =
       coverSlack = cover-slack-nonneg F D;
       slacks = sym (slacks-add E bound x P (F .marks));
       lack = λ y G. gap-bound E D G x;
-      sets = λ s l y G. within-capacity E G P s (D .rules s l);
+      sets = λ s l y G. within-capacity E G (P .marks) s (D .rules s l);
     })
 
 -- A subgraph with measured gap 0 is optimal, in either kind of graph.
@@ -77,33 +77,35 @@ solver-price : {z : ℤ} → SolverPrice z → PriceRange z
 solver-price p = (p .least, omega (order, p .greatest))
 
 -- The solver's prices pass the measuring call's tests.
-pub solved-priced : {g : Graph} {bound : List ℤ} {x : List ℕ} {vertex edge : List ℤ} → length vertex ≡ vertices g → length edge ≡ g .edges →
-    Solved g bound x vertex edge → Priced g bound (withoutSets vertex edge)
-solved-priced vertexLong edgeLong S = record {
+solved-priced : {g : Graph} {bound : List ℤ} {S : Outputs} → length (S .vertexPrices) ≡ vertices g → length (S .edgePrices) ≡ g .edges →
+    Solved g bound S → Priced g bound (solverPrices S)
+solved-priced vertexLong edgeLong D = record {
   lengths = record { vertex = vertexLong; edge = edgeLong; set = refl; setVertices = refl; setEdges = refl };
-  vertexRange = λ v l. solver-price (S .vertexRange v l);
-  edgeRange = λ e l. solver-price (S .edgeRange e l);
+  vertexRange = λ v l. solver-price (D .vertexRange v l);
+  edgeRange = λ e l. solver-price (D .edgeRange e l);
   setRange = λ s l. absurd (omega arith);
   fewSets = omega arith;
   rules = λ s l. absurd (omega arith);
-  covering = S .covering;
+  covering = D .covering;
 }
 
 -- The solver's prices certify its subgraph: against them a feasible subgraph has gap 0 just where it weighs as much.
-pub certified : {g : Graph} {bound : List ℤ} (index : List ℕ) (lent : Lent) {x : List ℕ} {vertex edge : List ℤ} → solve g bound index lent ≡ yields tt →
-    length vertex ≡ vertices g → length edge ≡ g .edges → Solved g bound x vertex edge → (y : List ℕ) → Feasible g bound y → Certified g bound x vertex edge y
-certified {g} {bound} index lent {x} {vertex} {edge} e vertexLong edgeLong S y F =
+pub certified : {g : Graph} {bound : List ℤ} {index : List ℕ} {lent : Lent} {S : Outputs} {workspace : List ℤ} → Left g bound index lent S workspace →
+    solve g bound index lent ≡ yields tt → (y : List ℕ) → Feasible g bound y → Certified g bound S y
+certified {g} {bound} {index} {lent} {S} L e y F =
     let a = solve-passed g bound index lent e in
-    let taken = measure-takes (a .passed) (a .bounded) F (solved-priced vertexLong edgeLong S) in
-    let exact : gapOf g bound y (withoutSets vertex edge)
-    ≡ halfPoints (lacks g x y) = same-total (totalOf g bound (withoutSets vertex edge)) (weightOf g x) (weightOf g y) (S .noGap) in
+    let D = L .solved e in
+    let P = solverPrices S in
+    let x = S .chosen in
+    let taken = measure-takes (a .passed) (a .bounded) F (solved-priced (L .vertexLong ∙ a .vertexLong) (L .edgeLong ∙ a .edgeLong) D) in
+    let exact : gapOf g bound y P ≡ halfPoints (lacks g x y) = same-total (totalOf g bound P) (weightOf g x) (weightOf g y) (D .noGap) in
     record {
-      numbers = measures g bound y (withoutSets vertex edge);
+      numbers = measures g bound y P;
       measured = taken;
       exact = exact;
       noGap = (λ none. sym (diff-zero (weightOf g x) (weightOf g y) (sym exact ∙ none)), λ same. exact ∙ zero-diff (weightOf g x) (weightOf g y) (sym same));
       optimal = (
-        no-gap-optimal (withoutSets vertex edge) taken,
-        λ best. exact ∙ zero-diff (weightOf g x) (weightOf g y) (≤ℤ-antisym (best .most x (S .optimal .feasible)) (S .optimal .most y F)),
+        no-gap-optimal P taken,
+        λ best. exact ∙ zero-diff (weightOf g x) (weightOf g y) (≤ℤ-antisym (best .most x (D .optimal .feasible)) (D .optimal .most y F)),
       );
     }

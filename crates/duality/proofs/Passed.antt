@@ -25,23 +25,24 @@ use Rattle.graph.specs.Passed.{Passed, Bounded}
 use Rattle.graph.proofs.Ranges.{both, _also_, held, up-to-true}
 use Rattle.graph.proofs.Passed.{graph-passed, passed-lengths, passed-tests, bounds-passed, bounds-test}
 use Rattle.dual.specs.declared.Measures.{Measures}
-use Rattle.dual.specs.Prices.{Prices, vertexPrice, edgePrice, setPrice, allPrices, marked}
-use Rattle.dual.specs.Sets.{nothingAbove, hasVertex, endsInside, oneEndInside, isOdd, keepsRules}
+use Rattle.dual.specs.Prices.{Prices, vertexPrice, edgePrice, setPrice, allPrices}
+use Rattle.dual.specs.Sets.{OddSets, marked, nothingAbove, hasVertex, endsInside, oneEndInside, isOdd, keepsRules}
 use Rattle.dual.specs.Gap.{worthAt, coverOf}
 use Rattle.dual.specs.Measure.{measure, measures, measureLengths, measureTests, priceTest, setTest, coverTest}
 use Rattle.dual.specs.Solve.{Lent, solve, solverTests}
+use Rattle.dual.specs.Passed.{PriceLengths}
 use Rattle.duality.proofs.Conditions.{Incident, DualFeasible}
 
 -- ---- odd sets
 
 -- A marked edge has just one end inside.
-pub one-end : (g : Graph) (bound : List ℤ) (P : Prices) (s : ℕ) → keepsRules g bound P s ≡ true → (e : ℕ) → e < g .edges → marked P s e ≡ true →
-    endsInside g P s e ≡ 1
-one-end g bound P s k e l m =
-    eqb-true (endsInside g P s e) 1
-    (ap (λ b. not b || eqb (endsInside g P s e) 1) (sym m)
-    ∙ every-true (g .edges) (λ d. not (marked P s d) || eqb (endsInside g P s d) 1)
-    (held (nothingAbove g P s) (hasVertex g P s ∷ oneEndInside g P s ∷ isOdd g bound P s ∷ []) k .1 .1 .0) e l)
+pub one-end : (g : Graph) (bound : List ℤ) (O : OddSets) (s : ℕ) → keepsRules g bound O s ≡ true → (e : ℕ) → e < g .edges → marked O s e ≡ true →
+    endsInside g O s e ≡ 1
+one-end g bound O s k e l m =
+    eqb-true (endsInside g O s e) 1
+    (ap (λ b. not b || eqb (endsInside g O s e) 1) (sym m)
+    ∙ every-true (g .edges) (λ d. not (marked O s d) || eqb (endsInside g O s d) 1)
+    (held (nothingAbove g O s) (hasVertex g O s ∷ oneEndInside g O s ∷ isOdd g bound O s ∷ []) k .1 .1 .0) e l)
 
 -- ---- graph, subgraph
 
@@ -85,14 +86,6 @@ module _ (Q : ℤ → Type 0) (xs ys : List ℤ) where
 abbrev pub PriceRange : ℤ → Type 0
 PriceRange z = (pos 0 ≤ℤ z) × (z ≤ℤ pos greatestPrice)
 
--- The lengths of what a price sheet lends.
-pub record PriceLengths (g : Graph) (P : Prices) : Type 0 where
-  pub vertex : length (P .vertex) ≡ vertices g
-  pub edge : length (P .edge) ≡ g .edges
-  pub set : length (P .set) ≡ P .sets
-  pub setVertices : length (P .setVertices) ≡ vertexWords * P .sets
-  pub setEdges : length (P .setEdges) ≡ edgeWords * P .sets
-
 -- What the tests of the prices and the odd sets show.
 pub record Priced (g : Graph) (bound : List ℤ) (P : Prices) : Type 0 where
   pub lengths : PriceLengths g P
@@ -100,7 +93,7 @@ pub record Priced (g : Graph) (bound : List ℤ) (P : Prices) : Type 0 where
   pub edgeRange : (e : ℕ) → e < g .edges → PriceRange (edgePrice P e)
   pub setRange : (s : ℕ) → s < P .sets → PriceRange (setPrice P s)
   pub fewSets : P .sets ≤ 16
-  pub rules : (s : ℕ) → s < P .sets → keepsRules g bound P s ≡ true
+  pub rules : (s : ℕ) → s < P .sets → keepsRules g bound (P .marks) s ≡ true
   pub covering : (e : ℕ) → e < g .edges → worthAt g e ≤ℤ coverOf g P e
 
 few-sets : (g : Graph) (bound : List ℤ) (P : Prices) → Passes (setTest g bound P ∷ []) → P .sets ≤ 16
@@ -120,7 +113,7 @@ prices-passed {g} {P} bound lengths p =
       edgeRange = λ e l. front PriceRange (P .edge) (P .set) later e (omega arith);
       setRange = λ s l. back PriceRange (P .edge) (P .set) later s (omega arith);
       fewSets = few;
-      rules = λ s l. both (ltb s 16) (keepsRules g bound P s) (p .1 .0 s (omega (arith, few))) .1;
+      rules = λ s l. both (ltb s 16) (keepsRules g bound (P .marks) s) (p .1 .0 s (omega (arith, few))) .1;
       covering = λ e l. leZ-true (worthAt g e) (coverOf g P e) (p .1 .1 .0 e l);
     }
   where
@@ -168,7 +161,7 @@ measure-passed {g} {bound} {x} {P} {M} e =
     let lengths =
     held (graphLengths g)
     (eqb (length bound) (vertices g) ∷ eqb (length x) (g .edges) ∷ eqb (length (P .vertex)) (vertices g) ∷ eqb (length (P .edge)) (g .edges)
-    ∷ eqb (length (P .set)) (P .sets) ∷ eqb (length (P .setVertices)) (vertexWords * P .sets) ∷ eqb (length (P .setEdges)) (edgeWords * P .sets) ∷ [])
+    ∷ eqb (length (P .set)) (P .sets) ∷ eqb (length (P .marks .vertices)) (vertexWords * P .sets) ∷ eqb (length (P .marks .edges)) (edgeWords * P .sets) ∷ [])
     (p .0 .0 0 (omega arith)) in
     let later = passes-split (graphTests g)
     (boundTest g bound ∷ markTest g x ∷ degreeTest g bound x ∷ priceTest P ∷ setTest g bound P ∷ coverTest g P ∷ []) (p .0 .1) in
@@ -180,8 +173,8 @@ measure-passed {g} {bound} {x} {P} {M} e =
         vertex = eqb-true (length (P .vertex)) (vertices g) (lengths .1 .1 .1 .0);
         edge = eqb-true (length (P .edge)) (g .edges) (lengths .1 .1 .1 .1 .0);
         set = eqb-true (length (P .set)) (P .sets) (lengths .1 .1 .1 .1 .1 .0);
-        setVertices = eqb-true (length (P .setVertices)) (vertexWords * P .sets) (lengths .1 .1 .1 .1 .1 .1 .0);
-        setEdges = eqb-true (length (P .setEdges)) (edgeWords * P .sets) (lengths .1 .1 .1 .1 .1 .1 .1 .0);
+        setVertices = eqb-true (length (P .marks .vertices)) (vertexWords * P .sets) (lengths .1 .1 .1 .1 .1 .1 .0);
+        setEdges = eqb-true (length (P .marks .edges)) (edgeWords * P .sets) (lengths .1 .1 .1 .1 .1 .1 .1 .0);
       }) (later .1 .1 .1 .1);
       numbers = sym (yields-same (p .1));
     }
@@ -208,8 +201,8 @@ measure-takes {g} {bound} {x} {P} S B F p =
         also eq-eqb (length (P .vertex)) (vertices g) (p .lengths .vertex)
         also eq-eqb (length (P .edge)) (g .edges) (p .lengths .edge)
         also eq-eqb (length (P .set)) (P .sets) (p .lengths .set)
-        also eq-eqb (length (P .setVertices)) (vertexWords * P .sets) (p .lengths .setVertices)
-        also eq-eqb (length (P .setEdges)) (edgeWords * P .sets) (p .lengths .setEdges)
+        also eq-eqb (length (P .marks .vertices)) (vertexWords * P .sets) (p .lengths .setVertices)
+        also eq-eqb (length (P .marks .edges)) (edgeWords * P .sets) (p .lengths .setEdges)
 
 -- What the solver's tests show.
 pub record SolvePassed (g : Graph) (bound : List ℤ) (index : List ℕ) (lent : Lent) : Type 0 where

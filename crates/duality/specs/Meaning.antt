@@ -13,7 +13,7 @@ use Rattle.dual.specs.Prices.{Prices}
 use Rattle.dual.specs.Sets.{capacity}
 use Rattle.dual.specs.Gap.{halfPoints, chosenCovered}
 use Rattle.dual.specs.Measure.{measure, measures}
-use Rattle.dual.specs.Solve.{withoutSets}
+use Rattle.dual.specs.Solve.{Outputs, solverPrices}
 
 -- What M, measured of the subgraph x against the prices P, means: they are the numbers that are defined, of a feasible subgraph; no slack is below 0,
 -- and they add up to the gap; twice what x lacks against any feasible subgraph is at most the gap; and no feasible subgraph chooses more edges that an
@@ -27,13 +27,13 @@ pub record Meaning (g : Graph) (bound : List ℤ) (x : List ℕ) (P : Prices) (M
   pub coverSlack : pos 0 ≤ℤ M .cover
   pub slacks : M .vertices +ℤ M .sets +ℤ M .edges +ℤ M .cover ≡ M .gap
   pub lack : (y : List ℕ) → Feasible g bound y → halfPoints (lacks g y x) ≤ℤ M .gap
-  pub sets : (s : ℕ) → s < P .sets → (y : List ℕ) → Feasible g bound y → chosenCovered g y P s ≤ capacity g bound P s
+  pub sets : (s : ℕ) → s < P .sets → (y : List ℕ) → Feasible g bound y → chosenCovered g y (P .marks) s ≤ capacity g bound (P .marks) s
 
--- What the solver's subgraph x and prices say of a feasible subgraph y: measured against these prices y has for its gap just twice what it lacks against
--- x, so that its gap is 0 where it weighs as much as x, or, which is the same, where it is optimal, and not otherwise.
-pub record Certified (g : Graph) (bound : List ℤ) (x : List ℕ) (vertex edge : List ℤ) (y : List ℕ) : Type 0 where
+-- What the solver's outputs say of a feasible subgraph y: measured against its prices y has for its gap just twice what it lacks against the chosen
+-- subgraph, so that its gap is 0 where it weighs as much, or, which is the same, where it is optimal, and not otherwise.
+pub record Certified (g : Graph) (bound : List ℤ) (S : Outputs) (y : List ℕ) : Type 0 where
   pub numbers : Measures
-  pub measured : measure g bound y (withoutSets vertex edge) ≡ yields numbers
-  pub exact : numbers .gap ≡ halfPoints (lacks g x y)
-  pub noGap : (numbers .gap ≡ pos 0) ↔ (weightOf g y ≡ weightOf g x)
+  pub measured : measure g bound y (solverPrices S) ≡ yields numbers
+  pub exact : numbers .gap ≡ halfPoints (lacks g (S .chosen) y)
+  pub noGap : (numbers .gap ≡ pos 0) ↔ (weightOf g y ≡ weightOf g (S .chosen))
   pub optimal : (numbers .gap ≡ pos 0) ↔ Optimal g bound y

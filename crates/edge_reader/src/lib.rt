@@ -12,7 +12,7 @@ use lines::Later;
 use text::Cursor;
 use text::EdgeLine;
 use text::Pair;
-ghost use Prim.Native.Nat.{ℕ, _-_};
+ghost use Prim.Native.Nat.{ℕ, _-_, _≤_};
 ghost use mathlib.Core.Path.{_≡_};
 ghost use mathlib.Core.Bool.{true};
 ghost use mathlib.Core.List.{List};
@@ -27,7 +27,7 @@ ghost use Rattle.layout.specs.Text.{words};
 ghost use Rattle.layout.specs.GraphText.{noEdges, edgeOn, graphEdge};
 ghost use Rattle.layout.specs.AssignmentText.{joining, placed, onEntry, entryOn};
 ghost use Rattle.text.specs.Cursor.{edgeLineSays};
-ghost use Rattle.lines.specs.Found.{Reached};
+ghost use Rattle.lines.specs.Found.{Reached, part};
 ghost use Rattle.edge_reader.specs.Edges.{Cleared, edgeSays, EdgeInRange, WeightInRange, Wanted, nextOf, left, NextAs, GraphReading};
 
 // The sort of text that edges are read from.
@@ -45,14 +45,15 @@ pub fn clear(row: &mut [u32], column: &mut [u32], weight: &mut [i32])
     lent::clear_integers(weight);
 }
 
-// The row, the column and the weight on an edge's line. Without weights the weight is 0.
-fn edge_words(line: &[u8], rules: Rules, field: Field) -> EdgeLine
-    ensures { λ r. ⌜ edgeLineSays r ≡ edgeOn rules field (words (now (line .entry))) ⌝ }
+// The row, the column and the weight on an edge's line, which the text has from `start` to `end`. Without weights the weight is 0.
+fn edge_words(text: &[u8], start: usize, end: usize, rules: Rules, field: Field) -> EdgeLine
+    requires { ⌜ (start ≤ end) × (end ≤ length (now text)) ⌝ }
+    ensures { λ r. ⌜ edgeLineSays r ≡ edgeOn rules field (words (part (now (text .entry)) start end)) ⌝ }
 {
     match field {
-        Field::Integer => text::edge_line(line, rules),
+        Field::Integer => text::edge_line_in(text, start, end, rules),
         Field::Pattern => {
-            let Pair::Is(row, column) = text::two_naturals(line, rules) else {
+            let Pair::Is(row, column) = text::two_naturals_in(text, start, end, rules) else {
                 return EdgeLine::Bad;
             };
             EdgeLine::Is {
@@ -70,16 +71,17 @@ enum TextEdge {
     Refused(Fault),
 }
 
-// A later line of a text of coordinates.
-fn edge_on(line: &[u8], s: Shape, rules: Rules, field: Field) -> TextEdge
-    ensures says { λ r. ⌜ ((row column : List ℕ) (weight : List ℤ) → edgeSays (graphOf s row column weight) r ≡ graphEdge (graphOf s row column weight) (edgeOn rules field (words (now (line .entry))))) ⌝ }
+// A later line of a text of coordinates, from `start` to `end`.
+fn edge_on(text: &[u8], start: usize, end: usize, s: Shape, rules: Rules, field: Field) -> TextEdge
+    requires { ⌜ (start ≤ end) × (end ≤ length (now text)) ⌝ }
+    ensures says { λ r. ⌜ ((row column : List ℕ) (weight : List ℤ) → edgeSays (graphOf s row column weight) r ≡ graphEdge (graphOf s row column weight) (edgeOn rules field (words (part (now (text .entry)) start end)))) ⌝ }
     ensures ranged { λ r. ⌜ EdgeInRange s r ⌝ }
 {
     let EdgeLine::Is {
         row,
         column,
         weight,
-    } = edge_words(line, rules, field)
+    } = edge_words(text, start, end, rules, field)
     else {
         return TextEdge::Refused(Fault::LaterLine);
     };
@@ -203,7 +205,9 @@ fn next_coordinate(
     match lines::later_line(text, c, more) {
         Later::Done => NextEdge::Done,
         Later::Refused(r) => NextEdge::Refused(r),
-        Later::At { start, end, next } => brings(edge_on(&text[start..end], s, rules, field), next),
+        Later::At { start, end, next } => {
+            brings(edge_on(text, start, end, s, rules, field), next)
+        },
     }
 }
 

@@ -4,10 +4,8 @@ use mathlib.Core.Path.{_≡_, refl, sym, ap, _∙_, subst}
 use mathlib.Core.Bool.{Bool, true, false, cond}
 use mathlib.Core.List.{List, [], _∷_}
 use mathlib.Core.Option.{Option, none, some, Option·map}
-use native.Mathlib.Omega.{arith}
 use lib.IntN.{ℤ}
-use lib.ListN.{length, take, drop, length-drop}
-use lib.Seq.{take-all}
+use lib.ListN.{length, take, drop}
 use mir.Syntax.{w32}
 use mir.Val.{SFits, toZ, ofZ}
 use mir.Facts.{toZ-ofZ}
@@ -24,10 +22,7 @@ use Rattle.text.specs.declared.Key.the-variants as Key
 use Rattle.text.specs.Cursor.{wordAt, naturalSays, pairSays, edgeLineSays, firstIs, FirstAt, FirstWord}
 use Rattle.text.proofs.Integers.{edge-fits}
 use Rattle.text.proofs.Pieces.{word-begins}
-
--- A line from a place on, as the part that is lent.
-rest-is : (l : List ℕ) (at : ℕ) → take (length l - at) (drop at l) ≡ drop at l
-rest-is l at = take-all (length l - at) (drop at l) (omega (arith, length-drop at l))
+use Rattle.text.proofs.Shapes.{rest-lent}
 
 -- A source node, or none.
 pub source-as : (ws : List (List ℕ)) {r : Natural} → naturalSays r ≡ oneWord (natural New) ws → (o : Natural) → r ≡ o →
@@ -67,7 +62,7 @@ module _ (l : List ℕ) {k : Key} (F : FirstWord l (bytes "asn") k) {at : ℕ} (
       Option·map problemFrom (pairSays o) ≡ problemOf (words l)
   problem-as {r} says o is =
       ap (Option·map problemFrom)
-      (sym (ap pairSays is) ∙ says ∙ ap (λ (m : List ℕ). twoWords (natural New) (natural New) (words m)) (rest-is l at)
+      (sym (ap pairSays is) ∙ says ∙ ap (λ (m : List ℕ). twoWords (natural New) (natural New) (words m)) (rest-lent l at)
       ∙ sym
       (ap problemSizes (first-found .ahead)
       ∙ ap (λ (b : Bool). cond b (twoWords (natural New) (natural New) (words (drop at l))) none) (first-found .is)))
@@ -90,7 +85,7 @@ module _ (l : List ℕ) (h : begins l ≡ true) {w : List ℕ} (is : w ≡ wordA
       ∙ rw (ep, en, ea) refl)
 
   lent : {A : Type 0} (f : List (List ℕ) → A) → f (words (take (length l - length w) (drop (length w) l))) ≡ f after
-  lent f = ap (λ (m : List ℕ). f (words m)) (rest-is l (length w))
+  lent f = ap (λ (m : List ℕ). f (words m)) (rest-lent l (length w))
 
   pub letter-p : same w (bytes "p") ≡ true → {o : Option Entry} → o ≡ problemOf (words (take (length l - length w) (drop (length w) l))) → o ≡ entryOn l
   letter-p e q = q ∙ lent problemOf ∙ by-letter true (same w (bytes "n")) (same w (bytes "a")) e refl refl

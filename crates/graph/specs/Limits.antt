@@ -8,12 +8,15 @@ mostSide = 64
 abbrev pub mostVertices : ℕ
 mostVertices = 128
 
--- At most 1,024 edges (pairs), and so at most 1,152 numbers in a text: one for each vertex and edge.
+-- At most 1,024 edges (pairs), and so at most 1,152 numbers in a text: one for each vertex and edge. A text by the old rules has at most as many.
 abbrev pub mostEdges : ℕ
 mostEdges = 1024
 
 abbrev pub mostNumbers : ℕ
 mostNumbers = mostVertices + mostEdges
+
+abbrev pub mostOldNumbers : ℕ
+mostOldNumbers = mostVertices + mostEdges
 
 -- A weight (merit) is from -1,000,000 to 1,000,000 points, a bound (limit) from 0 to 64, and a price from 0 to 4,000,000 half points; the solver's prices
 -- are to 2,000,000 half points, and the prices of texts by the old rules, in points, to 2,000,000 (request U5).

@@ -25,6 +25,8 @@ pub const MOST_EDGES: usize = 1024;
 
 pub const MOST_NUMBERS: usize = MOST_VERTICES + MOST_EDGES;
 
+pub const MOST_OLD_NUMBERS: usize = MOST_VERTICES + MOST_EDGES;
+
 pub const LEAST_WEIGHT: i32 = -1000000;
 
 pub const GREATEST_WEIGHT: i32 = 1000000;

@@ -2,3 +2,4 @@
 pub mod Offsets
 pub mod Places
 pub mod Tested
+pub mod Standing

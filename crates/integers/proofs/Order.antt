@@ -4,7 +4,7 @@ use mathlib.Core.Path.{_≡_, refl, sym, ap, ap₂, _∙_, subst}
 use mathlib.Core.Bool.{Bool, true, false, not, cond, _&&_, true≢false, false≢true}
 use Prim.Native.Nat.{ℕ, zero, suc, _+_, _*_, _-_, _^_, _≤_, _<_}
 use native.Mathlib.Omega.{arith}
-use native.Mathlib.Nat.{mul-zero, mul-add, mul-le-mul-left}
+use native.Mathlib.Nat.{mul-zero, mul-add, mul-le-mul-left, mul-le-mul-right, le-trans}
 use lib.Dec.{T, ltb, ltb→lt, nltb→le, leb→le, le→leb, lt→ltb}
 use lib.IntN.{ℤ, pos, negsuc, negℤ, subℕ, _+ℤ_, _-ℤ_, _*ℤ_}
 use lib.Signed.{_≤ℤ_, _<ℤ_, leZ, ltZ, ltZ-no, mag, clashℤ}
@@ -142,6 +142,10 @@ within-neg x h = omega (arith, up-neg x)
 
 pub within-times : (k : ℕ) (x : ℤ) {n : ℕ} → Within n x → Within (k * n) (pos k *ℤ x)
 within-times k x {n} h = omega (arith, up-times k x, mul-add k (up x) (dn x), mul-le-mul-left k h)
+
+-- A number within n taken at most m times.
+pub within-scaled : (k : ℕ) (x : ℤ) {m n : ℕ} → k ≤ m → Within n x → Within (m * n) (pos k *ℤ x)
+within-scaled k x {m} {n} l h = le-trans (within-times k x h) (mul-le-mul-right n l)
 
 -- ---- tests
 

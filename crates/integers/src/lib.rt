@@ -36,9 +36,9 @@ pub fn subtract(a: i64, b: i64) -> i64
     a - b
 }
 
-// A number taken a small count of times.
+// A number taken k times, where the product is not too large.
 pub fn scale(k: u32, x: i64) -> i64
-    requires { ⌜ (k ≤ 2 ^ 16) × Within (2 ^ 40) x ⌝ }
+    requires { ⌜ Within (2 ^ 62) (pos k *ℤ x) ⌝ }
     ensures { λ r. ⌜ r ≡ pos k *ℤ x ⌝ }
 {
     k as i64 * x

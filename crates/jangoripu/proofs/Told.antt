@@ -13,7 +13,7 @@ use Rattle.layout.specs.declared.TextAnswer.{TextAnswer}
 use Rattle.layout.specs.declared.TextAnswer.the-variants as TextAnswer
 use Rattle.layout.specs.Answers.{graphSays, textSays}
 use Rattle.dual.specs.declared.Measures.{Measures}
-use Rattle.dual.specs.Solve.{Lent, solve, Left}
+use Rattle.dual.specs.Solve.{Lent, Outputs, solve, Left}
 use Rattle.jangoripu.specs.Exports.{numberIn, placeIn, shapeTold, shapeOutcome, lengthTold, textOutcome, measuresTold, GraphRead, Filled, Tested, TextWritten, Measured, GraphSolved}
 
 -- A report keeps the number and the place of a refusal.
@@ -67,9 +67,9 @@ text-written a {W} says holds tells =
     record { number = tells .0 ∙ ap numberIn e ∙ number-kept length W; told = tells .1 ∙ ap lengthTold e; holds = holds }
 
 pub graph-solved :
-    (o : Outcome (Unit {0})) {g : Graph} {bound : List ℤ} {index : List ℕ} {lent : Lent} {x : List ℕ} {vertex edge workspace : List ℤ}
-    → told o ≡ told (solve g bound index lent) → Left g bound index lent x vertex edge workspace
-    → GraphSolved g bound index lent (numberIn o) (placeIn o) x vertex edge workspace
+    (o : Outcome (Unit {0})) {g : Graph} {bound : List ℤ} {index : List ℕ} {lent : Lent} {S : Outputs} {workspace : List ℤ}
+    → told o ≡ told (solve g bound index lent) → Left g bound index lent S workspace
+    → GraphSolved g bound index lent (numberIn o) (placeIn o) S workspace
 graph-solved o {g} {bound} {index} {lent} says leaves =
     let e = told-same o (solve g bound index lent) says in record { number = ap numberIn e; told = ap placeIn e; leaves = leaves }
 

@@ -18,7 +18,7 @@ use Rattle.layout.specs.declared.Numbers.{Numbers}
 use Rattle.layout.specs.declared.Numbers.the-variants.{Bounds, Prices}
 use Rattle.layout.specs.AssignmentText.{unitBounds}
 use Rattle.dual.specs.declared.Measures.{Measures}
-use Rattle.dual.specs.Solve.{Lent, solve, Left}
+use Rattle.dual.specs.Solve.{Lent, Outputs, solve, Left}
 
 -- The kind that is passed as a bool, the shape with it, and the sort of numbers.
 abbrev pub kindOf : Bool → Kind
@@ -108,7 +108,7 @@ pub record Measured (W : Outcome Measures) (r place : ℕ) (numbers : List ℤ) 
   pub holds : numbers ≡ measuresTold W
 
 -- The solver has run on a graph with its bounds and its index: what it returns and tells, and what it leaves in its outputs and the workspace.
-pub record GraphSolved (g : Graph) (bound : List ℤ) (index : List ℕ) (lent : Lent) (r place : ℕ) (x : List ℕ) (vertex edge workspace : List ℤ) : Type 0 where
+pub record GraphSolved (g : Graph) (bound : List ℤ) (index : List ℕ) (lent : Lent) (r place : ℕ) (S : Outputs) (workspace : List ℤ) : Type 0 where
   pub number : r ≡ numberIn (solve g bound index lent)
   pub told : place ≡ placeIn (solve g bound index lent)
-  pub leaves : Left g bound index lent x vertex edge workspace
+  pub leaves : Left g bound index lent S workspace

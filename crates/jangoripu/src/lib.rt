@@ -27,7 +27,7 @@ ghost use Rattle.graph.specs.Graph.{graphOf};
 ghost use Rattle.graph.specs.Index.{buildIndex, testIndex};
 ghost use Rattle.dual.specs.Prices.{pricesOf};
 ghost use Rattle.dual.specs.Measure.{measure};
-ghost use Rattle.dual.specs.Solve.{lentOf};
+ghost use Rattle.dual.specs.Solve.{lentOf, outputsOf};
 ghost use Rattle.jangoripu.specs.Exports.{kindOf, shapeGiven, kindNumber, numbersOf, numberIn, shapeTold, shapeOutcome, lengthTold, textOutcome, GraphRead, AssignmentRead, Filled, Tested, TextWritten, GraphSolved, Measured};
 
 // The kind that is passed as a bool.
@@ -328,7 +328,7 @@ pub extern "C" fn jangoripu_solve(
     workspace: &mut [i32],
     place: &mut u64,
 ) -> u32
-    ensures { λ r. ⌜ GraphSolved (graphOf (shapeGiven general rows columns edges) (now (row .entry)) (now (column .entry)) (now (weight .entry))) (now (bound .entry)) (now (index .entry)) (lentOf (length (now (chosen .entry))) (length (now («vertex_price» .entry))) (length (now («edge_price» .entry))) (length (now (workspace .entry)))) r (now (place .exit)) (now (chosen .exit)) (now («vertex_price» .exit)) (now («edge_price» .exit)) (now (workspace .exit)) ⌝ }
+    ensures { λ r. ⌜ GraphSolved (graphOf (shapeGiven general rows columns edges) (now (row .entry)) (now (column .entry)) (now (weight .entry))) (now (bound .entry)) (now (index .entry)) (lentOf (length (now (chosen .entry))) (length (now («vertex_price» .entry))) (length (now («edge_price» .entry))) (length (now (workspace .entry)))) r (now (place .exit)) (outputsOf (now (chosen .exit)) (now («vertex_price» .exit)) (now («edge_price» .exit))) (now (workspace .exit)) ⌝ }
 {
     let s = shape_of(general, rows, columns, edges);
     match solver::solve(

@@ -5,7 +5,7 @@ use mathlib.Core.Bool.{Bool, true, false, cond, _||_}
 use mathlib.Core.List.{List, [], _∷_, _++_, map}
 use mathlib.Core.Option.{Option, none, some}
 use lib.IntN.{ℤ}
-use Rattle.graph.specs.Limits.{mostEdges, mostNumbers}
+use Rattle.graph.specs.Limits.{mostEdges, mostOldNumbers}
 use Rattle.graph.specs.Refusal.{Outcome, yields, refuses}
 use Rattle.graph.specs.Graph.{some?}
 use Rattle.layout.specs.declared.Rules.the-variants.{Old}
@@ -59,7 +59,7 @@ abbrev pub takenAs : Field → List ℕ → Bool
 takenAs field text = takes (readGraphBy Old field mostEdges mostEdges mostEdges text)
 
 abbrev pub takenAsNumbers : Numbers → List ℕ → Bool
-takenAsNumbers what text = some? mostNumbers (λ k. takes (readNumbersBy Old what (suc k) (suc k) text))
+takenAsNumbers what text = some? mostOldNumbers (λ k. takes (readNumbersBy Old what (suc k) (suc k) text))
 
 unfoldable pub taken : List ℕ → Bool
 taken text = takenAs Field.Integer text || takenAs Field.Pattern text || takenAsNumbers Bounds text || takenAsNumbers Prices text

@@ -3,7 +3,7 @@ use graph::Refusal;
 use graph::Shape;
 
 // The rules of numbers: those of today, or the old ones of document 01, which only an old text that is rewritten is read by. They say how a number may be
-// written, and how great a price may be.
+// written, how many numbers a text may have, and how great a price may be.
 pub enum Rules {
     New,
     Old,

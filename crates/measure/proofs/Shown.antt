@@ -1,4 +1,4 @@
--- What the first tests of the measuring call show, and what it yields by the first that refuses.
+-- What the first tests of the measuring call show, and what it yields by the first test that refuses.
 use Prim.Native.Nat.{ℕ, _*_}
 use mathlib.Core.Path.{_≡_, refl, sym, ap, _∙_}
 use mathlib.Core.Bool.{Bool, true, false, _&&_}
@@ -12,19 +12,18 @@ use Rattle.graph.specs.declared.Fault.the-variants.{LentLength}
 use Rattle.graph.specs.declared.Refusal.{Refusal}
 use Rattle.graph.specs.Refusal.{Outcome, yields, refuses, Test, once, passing}
 use Rattle.graph.specs.Graph.{Graph, vertices}
-use Rattle.graph.specs.Tests.{graphLengths, graphTests, boundTest, markTest, degreeTest}
-use Rattle.graph.specs.Passed.{Passed, Bounded, MarksHold}
+use Rattle.graph.specs.Tests.{graphLengths, graphTests, boundTest, markTest}
 use Rattle.graph.proofs.Passing.{passes, passes-split}
 use Rattle.graph.proofs.Passed.{graph-passed, bounds-passed, marks-passed}
 use Rattle.graph.proofs.Ranges.{both, held}
 use Rattle.dual.specs.declared.Measures.{Measures}
 use Rattle.dual.specs.Prices.{Prices}
-use Rattle.dual.specs.Measure.{measure, measures, measureLengths, priceTest, setTest, coverTest}
-use Rattle.duality.proofs.Passed.{PriceLengths}
+use Rattle.dual.specs.Measure.{measure, measures, measureLengths}
+use Rattle.dual.specs.Passed.{PriceLengths}
 use Rattle.checks.specs.declared.Check.{Check}
 use Rattle.checks.specs.declared.Check.the-variants as Check
 use Rattle.checks.specs.Checks.{checkSays}
-use Rattle.measure.specs.Tables.{subgraphTests}
+use Rattle.measure.specs.Shown.{subgraphTests, SubgraphShown, priceTests, lastTests, yieldsLater}
 use Rattle.checks.proofs.Tests.{part-refuses, part-passes}
 
 module _ (g : Graph) (bound : List ℤ) (x : List ℕ) (P : Prices) where
@@ -32,15 +31,8 @@ module _ (g : Graph) (bound : List ℤ) (x : List ℕ) (P : Prices) where
   abbrev pub lengthsBesides : Bool
   lengthsBesides =
       eqb (length bound) (vertices g) && eqb (length x) (g .edges) && eqb (length (P .vertex)) (vertices g)
-      && eqb (length (P .edge)) (g .edges) && eqb (length (P .set)) (P .sets) && eqb (length (P .setVertices)) (2 * P .sets)
-      && eqb (length (P .setEdges)) (16 * P .sets)
-
-  -- What is shown before the degrees are counted.
-  pub record Shown : Type 0 where
-    pub passed : Passed g
-    pub bounded : Bounded (vertices g) bound
-    pub marks : MarksHold (g .edges) x
-    pub lengths : PriceLengths g P
+      && eqb (length (P .edge)) (g .edges) && eqb (length (P .set)) (P .sets) && eqb (length (P .marks .vertices)) (2 * P .sets)
+      && eqb (length (P .marks .edges)) (16 * P .sets)
 
   pub record OthersHold : Type 0 where
     pub bounds : length bound ≡ vertices g
@@ -52,7 +44,7 @@ module _ (g : Graph) (bound : List ℤ) (x : List ℕ) (P : Prices) where
       let h =
       held (eqb (length bound) (vertices g))
       (eqb (length x) (g .edges) ∷ eqb (length (P .vertex)) (vertices g) ∷ eqb (length (P .edge)) (g .edges) ∷ eqb (length (P .set)) (P .sets)
-      ∷ eqb (length (P .setVertices)) (2 * P .sets) ∷ eqb (length (P .setEdges)) (16 * P .sets) ∷ [])
+      ∷ eqb (length (P .marks .vertices)) (2 * P .sets) ∷ eqb (length (P .marks .edges)) (16 * P .sets) ∷ [])
       e in
       record {
         bounds = eqb-true (length bound) (vertices g) (h .0);
@@ -61,8 +53,8 @@ module _ (g : Graph) (bound : List ℤ) (x : List ℕ) (P : Prices) where
           vertex = eqb-true (length (P .vertex)) (vertices g) (h .1 .1 .0);
           edge = eqb-true (length (P .edge)) (g .edges) (h .1 .1 .1 .0);
           set = eqb-true (length (P .set)) (P .sets) (h .1 .1 .1 .1 .0);
-          setVertices = eqb-true (length (P .setVertices)) (2 * P .sets) (h .1 .1 .1 .1 .1 .0);
-          setEdges = eqb-true (length (P .setEdges)) (16 * P .sets) (h .1 .1 .1 .1 .1 .1 .0);
+          setVertices = eqb-true (length (P .marks .vertices)) (2 * P .sets) (h .1 .1 .1 .1 .1 .0);
+          setEdges = eqb-true (length (P .marks .edges)) (16 * P .sets) (h .1 .1 .1 .1 .1 .1 .0);
         };
       }
 
@@ -71,23 +63,17 @@ module _ (g : Graph) (bound : List ℤ) (x : List ℕ) (P : Prices) where
   lengths-apart = go (graphLengths g)
     where
       go : (b : Bool) → b && eqb (length bound) (vertices g) && eqb (length x) (g .edges) && eqb (length (P .vertex)) (vertices g)
-          && eqb (length (P .edge)) (g .edges) && eqb (length (P .set)) (P .sets) && eqb (length (P .setVertices)) (2 * P .sets)
-          && eqb (length (P .setEdges)) (16 * P .sets) ≡ b && lengthsBesides
+          && eqb (length (P .edge)) (g .edges) && eqb (length (P .set)) (P .sets) && eqb (length (P .marks .vertices)) (2 * P .sets)
+          && eqb (length (P .marks .edges)) (16 * P .sets) ≡ b && lengthsBesides
       go true = refl
       go false = refl
 
-  -- The tests of the degrees and the prices, and the last two.
-  abbrev pub priceTests : List Test
-  priceTests = degreeTest g bound x ∷ priceTest P ∷ []
+  abbrev later : List Test
+  later = priceTests g bound x P ++ lastTests g bound P
 
-  abbrev pub lastTests : List Test
-  lastTests = setTest g bound P ∷ coverTest g P ∷ []
-
-  call-is : passing (subgraphTests g bound x lengthsBesides ++ (priceTests ++ lastTests)) (yields (measures g bound x P)) ≡ measure g bound x P
+  call-is : passing (subgraphTests g bound x lengthsBesides ++ later) (yields (measures g bound x P)) ≡ measure g bound x P
   unfolding measure
-  call-is =
-      ap (λ c. passing (once LentLength c ∷ (graphTests g ++ (boundTest g bound ∷ markTest g x ∷ (priceTests ++ lastTests)))) (yields (measures g bound x P)))
-      (sym lengths-apart)
+  call-is = ap (λ c. passing (once LentLength c ∷ (graphTests g ++ (boundTest g bound ∷ markTest g x ∷ later))) (yields (measures g bound x P))) (sym lengths-apart)
 
   -- The first tests are made, with the other lengths as b.
   module _ {b : Bool} (r : Check) (is : b ≡ lengthsBesides) (say : checkSays r ≡ passing (subgraphTests g bound x b) (yields tt)) where
@@ -95,11 +81,10 @@ module _ (g : Graph) (bound : List ℤ) (x : List ℕ) (P : Prices) where
     said = say ∙ ap (λ c. passing (subgraphTests g bound x c) (yields tt)) is
 
     pub first-refused : {f : Refusal} → r ≡ Check.Refused f → refuses (f .fault) (f .place) ≡ measure g bound x P
-    first-refused e =
-        part-refuses (subgraphTests g bound x lengthsBesides) (priceTests ++ lastTests) (yields (measures g bound x P)) said e ∙ call-is
+    first-refused e = part-refuses (subgraphTests g bound x lengthsBesides) later (yields (measures g bound x P)) said e ∙ call-is
 
     module _ (passed : r ≡ Check.Passed) where
-      pub shown : Shown
+      pub shown : SubgraphShown g bound x P
       shown =
           let p = passes (subgraphTests g bound x lengthsBesides) (yields tt) tt (sym said ∙ ap checkSays passed) .0 in
           let l = both (graphLengths g) lengthsBesides (p .0 0 (omega arith)) in
@@ -112,16 +97,14 @@ module _ (g : Graph) (bound : List ℤ) (x : List ℕ) (P : Prices) where
             lengths = h .prices;
           }
 
-      -- The degrees and the prices are tested.
-      module _ (q : Check) (says : checkSays q ≡ passing priceTests (yields tt)) where
-        pub second-refused : {f : Refusal} → q ≡ Check.Refused f → refuses (f .fault) (f .place) ≡ measure g bound x P
-        second-refused e =
-            part-passes (subgraphTests g bound x lengthsBesides) (priceTests ++ lastTests) (yields (measures g bound x P)) said passed
-            (part-refuses priceTests lastTests (yields (measures g bound x P)) says e)
-            ∙ call-is
+      pub later-decide : yieldsLater g bound x P ≡ measure g bound x P
+      later-decide = part-passes (subgraphTests g bound x lengthsBesides) later (yields (measures g bound x P)) said passed refl ∙ call-is
 
-        pub last-decide : q ≡ Check.Passed → {v : Outcome Measures} → v ≡ passing lastTests (yields (measures g bound x P)) → v ≡ measure g bound x P
-        last-decide e h =
-            part-passes (subgraphTests g bound x lengthsBesides) (priceTests ++ lastTests) (yields (measures g bound x P)) said passed
-            (part-passes priceTests lastTests (yields (measures g bound x P)) says e h)
-            ∙ call-is
+  -- Of the later tests, those of the degrees and the prices are made.
+  module _ (q : Check) (says : checkSays q ≡ passing (priceTests g bound x P) (yields tt)) where
+    pub prices-refused : {f : Refusal} → q ≡ Check.Refused f → refuses (f .fault) (f .place) ≡ yieldsLater g bound x P
+    prices-refused e = part-refuses (priceTests g bound x P) (lastTests g bound P) (yields (measures g bound x P)) says e
+
+    pub last-decide : q ≡ Check.Passed → {v : Outcome Measures} → v ≡ passing (lastTests g bound P) (yields (measures g bound x P)) →
+        v ≡ yieldsLater g bound x P
+    last-decide e h = part-passes (priceTests g bound x P) (lastTests g bound P) (yields (measures g bound x P)) says e h

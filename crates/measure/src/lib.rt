@@ -32,7 +32,16 @@ ghost use Rattle.dual.specs.Measure as dual-measure;
 ghost use Rattle.dual.specs.Measure.{priceTest, measureSays};
 ghost use Rattle.checks.specs.Checks.{checkSays};
 ghost use Rattle.sums.specs.Lent.{PricesLent};
-ghost use Rattle.measure.specs.Tables.{subgraphTests, totalBy, measuresBy};
+ghost use Rattle.measure.specs.Shown.{subgraphTests, SubgraphShown, yieldsLater, yieldsCovered};
+ghost use Rattle.measure.specs.Tables.{Addable, Tabled, totalBy, measuresBy};
+
+// The degrees, the number of odd sets, their loads, and how many chosen edges each of them covers.
+struct Tables {
+    degree: [u32; MOST_VERTICES],
+    sets: u32,
+    load: [u32; MOST_SETS],
+    covered: [u32; MOST_SETS],
+}
 
 // Whether bounds, marks, prices and odd sets have just the lengths that n, m and the number of sets give.
 fn others_match(
@@ -127,7 +136,7 @@ fn total_of(
     integers::add(integers::add(vertices, odd), own)
 }
 
-// The seven numbers, from the tables of degrees, loads, chosen edges covered by each odd set, and cover.
+// The seven numbers, from the tables and the cover of each edge.
 fn numbers(
     s: Shape,
     weight: &[i32],
@@ -135,18 +144,18 @@ fn numbers(
     chosen: &[u8],
     vertex_price: &[i32],
     edge_price: &[i32],
-    sets: u32,
     set_price: &[i32],
-    degree: [u32; MOST_VERTICES],
-    load: [u32; MOST_SETS],
-    covered: [u32; MOST_SETS],
-    cover: [i64; MOST_EDGES],
+    tables: Tables,
+    cover: &[i64; MOST_EDGES],
 ) -> Measures
     requires { ⌜ (verticesIn s ≤ mostVertices) × Bounded (verticesIn s) (now bound) × (s .edges ≤ mostEdges) × (length (now weight) ≡ s .edges) × MarksHold (s .edges) (now chosen) ⌝ }
-    requires { ⌜ PricesLent s (now «vertex_price») (now «edge_price») sets (now «set_price») ⌝ }
-    requires { ⌜ ((v : ℕ) → v < verticesIn s → getD degree v 0 ≤ 2 ^ 16) × ((k : ℕ) → k < sets → (getD load k 0 ≤ 2 ^ 16) × (getD covered k 0 ≤ 2 ^ 16)) × ((e : ℕ) → e < s .edges → Within (2 ^ 36) (getD cover e (pos 0))) ⌝ }
-    ensures { λ r. ⌜ r ≡ measuresBy (graphOf s [] [] (now (weight .entry))) (now (bound .entry)) (now (chosen .entry)) (pricesOf (now («vertex_price» .entry)) (now («edge_price» .entry)) sets (now («set_price» .entry)) [] []) degree load covered cover ⌝ }
+    requires { ⌜ PricesLent s (now «vertex_price») (now «edge_price») (tables .sets) (now «set_price») × Addable (verticesIn s) tables × ((e : ℕ) → e < s .edges → Within (2 ^ 36) (getD (now cover) e (pos 0))) ⌝ }
+    ensures { λ r. ⌜ r ≡ measuresBy (graphOf s [] [] (now (weight .entry))) (now (bound .entry)) (now (chosen .entry)) (pricesOf (now («vertex_price» .entry)) (now («edge_price» .entry)) (tables .sets) (now («set_price» .entry)) [] []) tables (now (cover .entry)) ⌝ }
 {
+    let degree = tables.degree;
+    let sets = tables.sets;
+    let load = tables.load;
+    let covered = tables.covered;
     let total = total_of(s, bound, vertex_price, edge_price, sets, set_price, load);
     let chosen_weight = sums::weight_of(s.edges, weight, chosen);
     let worth = dual::half_points(chosen_weight);
@@ -170,6 +179,104 @@ fn refused_at(fault: Fault, k: usize) -> MeasureAnswer
         fault,
         place: k as u64 + 1,
     })
+}
+
+// The end of the measuring call, from the tables: the test of the cover, and the numbers.
+fn measure_tabled(
+    s: Shape,
+    row: &[u32],
+    column: &[u32],
+    weight: &[i32],
+    bound: &[i32],
+    chosen: &[u8],
+    vertex_price: &[i32],
+    edge_price: &[i32],
+    set_price: &[i32],
+    set_vertices: &[u64],
+    set_edges: &[u64],
+    tables: Tables,
+) -> MeasureAnswer
+    requires { ⌜ SubgraphShown (graphOf s (now row) (now column) (now weight)) (now bound) (now chosen) (pricesOf (now «vertex_price») (now «edge_price») (tables .sets) (now «set_price») (now «set_vertices») (now «set_edges»)) ⌝ }
+    requires { ⌜ Tabled (graphOf s (now row) (now column) (now weight)) (now bound) (now chosen) (pricesOf (now «vertex_price») (now «edge_price») (tables .sets) (now «set_price») (now «set_vertices») (now «set_edges»)) tables ⌝ }
+    ensures { λ r. ⌜ measureSays r ≡ told (yieldsCovered (graphOf s (now (row .entry)) (now (column .entry)) (now (weight .entry))) (now (bound .entry)) (now (chosen .entry)) (pricesOf (now («vertex_price» .entry)) (now («edge_price» .entry)) (tables .sets) (now («set_price» .entry)) (now («set_vertices» .entry)) (now («set_edges» .entry)))) ⌝ }
+{
+    let mut cover = [0i64; MOST_EDGES];
+    sums::cover_table(
+        s,
+        row,
+        column,
+        vertex_price,
+        edge_price,
+        tables.sets,
+        set_price,
+        set_vertices,
+        set_edges,
+        &mut cover,
+    );
+    if let Lowest::At(e) = sums::lowest_uncovered(s.edges, weight, &cover) {
+        return refused_at(Fault::Uncovered, e);
+    }
+    MeasureAnswer::Measured(numbers(
+        s,
+        weight,
+        bound,
+        chosen,
+        vertex_price,
+        edge_price,
+        set_price,
+        tables,
+        &cover,
+    ))
+}
+
+// The rest of the measuring call, once the lengths, the graph, the bounds and the marks have passed: the tests of the degrees, the prices and the odd
+// sets, and what follows from their tables.
+fn measure_passed(
+    s: Shape,
+    row: &[u32],
+    column: &[u32],
+    weight: &[i32],
+    bound: &[i32],
+    chosen: &[u8],
+    vertex_price: &[i32],
+    edge_price: &[i32],
+    sets: u32,
+    set_price: &[i32],
+    set_vertices: &[u64],
+    set_edges: &[u64],
+) -> MeasureAnswer
+    requires { ⌜ SubgraphShown (graphOf s (now row) (now column) (now weight)) (now bound) (now chosen) (pricesOf (now «vertex_price») (now «edge_price») sets (now «set_price») (now «set_vertices») (now «set_edges»)) ⌝ }
+    ensures { λ r. ⌜ measureSays r ≡ told (yieldsLater (graphOf s (now (row .entry)) (now (column .entry)) (now (weight .entry))) (now (bound .entry)) (now (chosen .entry)) (pricesOf (now («vertex_price» .entry)) (now («edge_price» .entry)) sets (now («set_price» .entry)) (now («set_vertices» .entry)) (now («set_edges» .entry)))) ⌝ }
+{
+    let degree = checks::degrees(s, row, column, chosen);
+    if let Check::Refused(r) = check_prices(degree, bound, vertex_price, edge_price, set_price) {
+        return MeasureAnswer::Refused(r);
+    }
+    let load = sets::load_table(s, bound, sets, set_vertices, set_edges);
+    if let Lowest::At(k) = sets::lowest_set(s, row, column, load, sets, set_vertices, set_edges) {
+        return refused_at(Fault::OddSet, k);
+    }
+    let covered = sets::covered_table(s, row, column, chosen, sets, set_vertices, set_edges);
+    let tables = Tables {
+        degree,
+        sets,
+        load,
+        covered,
+    };
+    measure_tabled(
+        s,
+        row,
+        column,
+        weight,
+        bound,
+        chosen,
+        vertex_price,
+        edge_price,
+        set_price,
+        set_vertices,
+        set_edges,
+        tables,
+    )
 }
 
 // Measures a subgraph against prices.
@@ -204,32 +311,10 @@ pub fn measure(
     if let Check::Refused(r) = subgraph {
         return MeasureAnswer::Refused(r);
     }
-    let degree = checks::degrees(s, row, column, chosen);
-    let prices = check_prices(degree, bound, vertex_price, edge_price, set_price);
-    if let Check::Refused(r) = prices {
-        return MeasureAnswer::Refused(r);
-    }
-    let load = sets::load_table(s, bound, sets, set_vertices, set_edges);
-    if let Lowest::At(k) = sets::lowest_set(s, row, column, load, sets, set_vertices, set_edges) {
-        return refused_at(Fault::OddSet, k);
-    }
-    let cover = sums::cover_table(
+    measure_passed(
         s,
         row,
         column,
-        vertex_price,
-        edge_price,
-        sets,
-        set_price,
-        set_vertices,
-        set_edges,
-    );
-    if let Lowest::At(e) = sums::lowest_uncovered(s.edges, weight, cover) {
-        return refused_at(Fault::Uncovered, e);
-    }
-    let covered = sets::covered_table(s, row, column, chosen, sets, set_vertices, set_edges);
-    MeasureAnswer::Measured(numbers(
-        s,
         weight,
         bound,
         chosen,
@@ -237,9 +322,7 @@ pub fn measure(
         edge_price,
         sets,
         set_price,
-        degree,
-        load,
-        covered,
-        cover,
-    ))
+        set_vertices,
+        set_edges,
+    )
 }

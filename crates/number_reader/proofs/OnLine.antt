@@ -10,18 +10,21 @@ use borrow.Author.Tests.{eq-eqb, ne-eqb, not-true, not-false}
 use mir.Syntax.{w32}
 use mir.Val.{toZ, ofZ}
 use mir.Facts.{toZ-ofZ}
+use Rattle.graph.specs.declared.Fault.{Fault}
 use Rattle.graph.specs.declared.Fault.the-variants.{Header, SizeLine, Sizes, LaterLine}
 use Rattle.layout.specs.declared.Rules.{Rules}
 use Rattle.layout.specs.declared.Numbers.{Numbers}
 use Rattle.layout.specs.Text.{bytes, integer, oneWord, header}
 use Rattle.layout.specs.Lines.{Step, goes, stops}
-use Rattle.layout.specs.NumberText.{inRange, outside, numberHeader, numberSizes, numberValue}
+use Rattle.layout.specs.NumberText.{inRange, outside, numberJudged, numberHeader, numberSizes, numberValue}
 use Rattle.text.specs.declared.Pair.{Pair}
 use Rattle.text.specs.declared.Pair.the-variants as Pair
 use Rattle.text.specs.declared.Integer.{Integer}
 use Rattle.text.specs.declared.Integer.the-variants as Integer
 use Rattle.text.specs.Cursor.{pairSays, integerSays}
 use Rattle.text.proofs.Integers.{one-fits}
+use Rattle.number_reader.specs.declared.NumberLine.{NumberLine}
+use Rattle.number_reader.specs.OnLine.{valueSays}
 
 -- The header line.
 module _ (l : List ℕ) {b : Bool} (says : b ≡ header (bytes "matrix" ∷ bytes "array" ∷ bytes "integer" ∷ bytes "general" ∷ []) l) where
@@ -59,20 +62,19 @@ module _ (rules : Rules) (what : Numbers) (ws : List (List ℕ)) {r : Integer} (
     pub number-back : toZ w32 (ofZ w32 z) ≡ z
     number-back = toZ-ofZ {w = w32} (one-fits rules ws z (sym says ∙ ap integerSays is))
 
-    number-does : (b : Bool) → inRange rules what z ≡ b → (zs : List ℤ) →
-        cond b (goes (zs ++ (z ∷ []))) (stops (outside what)) ≡ numberValue rules what zs (oneWord (integer rules) ws)
-    number-does b e zs =
-        ap (λ (x : Bool). cond {A = Step (List ℤ)} x (goes (zs ++ (z ∷ []))) (stops (outside what))) (sym e)
-        ∙ ap (numberValue rules what zs) (sym (ap integerSays is) ∙ says)
+    -- It is numberJudged. Code sees it as the number of its bits.
+    pub number-judged : (l : NumberLine) → ((zs : List ℤ) → valueSays zs l ≡ numberJudged rules what zs (toZ w32 (ofZ w32 z))) →
+        (zs : List ℤ) → valueSays zs l ≡ numberValue rules what zs (oneWord (integer rules) ws)
+    number-judged l does zs = does zs ∙ ap (numberJudged rules what zs) number-back ∙ ap (numberValue rules what zs) (sym (ap integerSays is) ∙ says)
 
-    -- It is in range, or not. Code sees it as the number of its bits.
-    module _ {x : Bool} {y : ℤ} (tests : x ≡ inRange rules what y) (same : y ≡ z) where
-      pub number-in : x ≡ true →
-          ((zs : List ℤ) → goes (zs ++ (toZ w32 (ofZ w32 z) ∷ [])) ≡ numberValue rules what zs (oneWord (integer rules) ws))
-          × (inRange rules what (toZ w32 (ofZ w32 z)) ≡ true)
-      number-in t =
-          let e : inRange rules what z ≡ true = ap (inRange rules what) (sym same) ∙ sym tests ∙ t in
-          rw number-back ((λ zs. number-does true e zs), e)
+-- The judge, by whether the number, whose bits make y, is in range.
+module _ (rules : Rules) (what : Numbers) {y z : ℤ} (same : y ≡ z) {b : Bool} (tests : b ≡ inRange rules what y) where
+  judge-does : (t : Bool) → b ≡ t → (zs : List ℤ) → cond t (goes (zs ++ (y ∷ []))) (stops (outside what)) ≡ numberJudged rules what zs z
+  judge-does t e zs =
+      ap (λ (x : Bool). cond {A = Step (List ℤ)} x (goes (zs ++ (y ∷ []))) (stops (outside what))) (sym e ∙ tests) ∙ ap (numberJudged rules what zs) same
 
-      pub number-out : x ≡ false → (zs : List ℤ) → stops (outside what) ≡ numberValue rules what zs (oneWord (integer rules) ws)
-      number-out t = number-does false (ap (inRange rules what) (sym same) ∙ sym tests ∙ t)
+  pub judged-in : b ≡ true → ((zs : List ℤ) → goes (zs ++ (y ∷ [])) ≡ numberJudged rules what zs z) × (inRange rules what y ≡ true)
+  judged-in t = ((λ zs. judge-does true t zs), sym tests ∙ t)
+
+  pub judged-out : {f : Fault} → f ≡ outside what → b ≡ false → (zs : List ℤ) → stops f ≡ numberJudged rules what zs z
+  judged-out is t zs = ap stops is ∙ judge-does false t zs

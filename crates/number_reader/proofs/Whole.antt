@@ -9,7 +9,6 @@ use lib.ListN.{replicate}
 use borrow.Author.Tests.{eqb-true}
 use Rattle.graph.specs.declared.Fault.the-variants.{TextLength, Sizes, LentLength}
 use Rattle.graph.specs.declared.Refusal.{Refusal}
-use Rattle.graph.specs.Limits.{mostNumbers}
 use Rattle.graph.specs.Refusal.{Outcome, yields, refuses, told, reported, output, Test, once, passing}
 use Rattle.graph.specs.Graph.{upTo}
 use Rattle.graph.proofs.Passing.{once-yields}
@@ -20,7 +19,7 @@ use Rattle.layout.specs.declared.NumbersAnswer.{NumbersAnswer}
 use Rattle.layout.specs.declared.NumbersAnswer.the-variants as NumbersAnswer
 use Rattle.layout.specs.Text.{textFits}
 use Rattle.layout.specs.Lines.{readText}
-use Rattle.layout.specs.NumberText.{numberLayout, readNumbersBy}
+use Rattle.layout.specs.NumberText.{mostNumbersBy, numberLayout, readNumbersBy}
 use Rattle.layout.specs.Answers.{numbersSay}
 use Rattle.checks.specs.declared.Check.{Check}
 use Rattle.checks.specs.declared.Check.the-variants as Check
@@ -44,27 +43,27 @@ refused-leaves : (rules : Rules) (what : Numbers) (count n : ℕ) (s : List ℕ)
     → NumbersAnswered rules what count n s (NumbersAnswer.Refused x) out
 refused-leaves rules what count n s x e z = (ap told e, z ∙ left-refused n (pos 0) (λ zs. zs) (λ zs. tt {0}) (readNumbersBy rules what count n s) (x .fault) (x .place) e)
 
-module _ (rules : Rules) (what : Numbers) (count n : ℕ) (s : List ℕ) {lent sizes : Bool} (p : lent ≡ eqb n count) (q : sizes ≡ upTo mostNumbers count) (r : Check)
+module _ (rules : Rules) (what : Numbers) (count n : ℕ) (s : List ℕ) {lent sizes : Bool} (p : lent ≡ eqb n count) (q : sizes ≡ upTo (mostNumbersBy rules) count) (r : Check)
     (says : checkSays r ≡ passing (numberTests lent sizes s) (yields tt)) where
-  says-whole : checkSays r ≡ passing (numberTests (eqb n count) (upTo mostNumbers count) s) (yields tt)
+  says-whole : checkSays r ≡ passing (numberTests (eqb n count) (upTo (mostNumbersBy rules) count) s) (yields tt)
   says-whole = says ∙ ap₂ (λ (x y : Bool). passing (numberTests x y s) (yields (tt {0}))) p q
 
   pub whole-lent : {x : Refusal} {out : List ℤ} → r ≡ Check.Refused x → out ≡ replicate n (pos 0) → NumbersAnswered rules what count n s (NumbersAnswer.Refused x) out
   unfolding readNumbersBy
   whole-lent {x} is z =
-      let e = checked-refused (numberTests (eqb n count) (upTo mostNumbers count) s) (readText (numberLayout rules what count) s) says-whole is in
+      let e = checked-refused (numberTests (eqb n count) (upTo (mostNumbersBy rules) count) s) (readText (numberLayout rules what count) s) says-whole is in
       refused-leaves rules what count n s x (ap (reported (λ zs. tt {0})) (sym e)) z
 
   module _ (is : r ≡ Check.Passed) where
     pub lent-right : n ≡ count
     lent-right =
         eqb-true n count
-        (once-yields LentLength (eqb n count) (once Sizes (upTo mostNumbers count) ∷ once TextLength (textFits s) ∷ []) (yields tt) tt
+        (once-yields LentLength (eqb n count) (once Sizes (upTo (mostNumbersBy rules) count) ∷ once TextLength (textFits s) ∷ []) (yields tt) tt
         (sym says-whole ∙ ap checkSays is) .0)
 
     passed : readText (numberLayout rules what count) s ≡ readNumbersBy rules what count n s
     unfolding readNumbersBy
-    passed = sym (checked-passed (numberTests (eqb n count) (upTo mostNumbers count) s) (readText (numberLayout rules what count) s) says-whole is)
+    passed = sym (checked-passed (numberTests (eqb n count) (upTo (mostNumbersBy rules) count) s) (readText (numberLayout rules what count) s) says-whole is)
 
     module _ {a : NumbersAnswer} {out : List ℤ} (R : NumbersReading rules what count s a out) where
       answered : (o : Outcome (Unit {0})) (m : NumbersAnswer) → numbersSay m ≡ told o → a ≡ m → o ≡ reported (λ zs. tt {0}) (readNumbersBy rules what count n s)

@@ -5,6 +5,7 @@ use graph::GREATEST_BOUND;
 use graph::GREATEST_OLD_PRICE;
 use graph::GREATEST_PRICE;
 use graph::MOST_NUMBERS;
+use graph::MOST_OLD_NUMBERS;
 use layout::Numbers;
 use layout::NumbersAnswer;
 use layout::Rules;
@@ -18,13 +19,30 @@ ghost use mathlib.Core.List.{List, []};
 ghost use lib.IntN.{ℤ, pos};
 ghost use lib.ListN.{length, replicate};
 ghost use Rattle.integers.specs.Integer.{between};
+ghost use Rattle.graph.specs.Graph.{upTo};
 ghost use Rattle.graph.specs.Refusal.{told, reported, output};
 ghost use Rattle.layout.specs.Text.{words, natural, integer, oneWord, twoWords};
 ghost use Rattle.layout.specs.Lines.{reading};
-ghost use Rattle.layout.specs.NumberText.{greatestPriceBy, inRange, outside, numberSizes, numberValue, numberLayout, readNumbersBy, readNumbers};
+ghost use Rattle.layout.specs.NumberText.{mostNumbersBy, greatestPriceBy, inRange, outside, numberJudged, numberSizes, numberValue, numberLayout, readNumbersBy, readNumbers};
 ghost use Rattle.layout.specs.Answers.{numbersSay};
 ghost use Rattle.lines.specs.Walk.{Walk};
 ghost use Rattle.number_reader.specs.OnLine.{countSays, valueSays, ValueInRange, NumbersReading};
+
+// How many numbers a text may have by the rules.
+fn most_numbers(rules: Rules) -> u32
+    ensures { λ r. ⌜ r ≡ mostNumbersBy rules ⌝ }
+{
+    match rules {
+        Rules::New => MOST_NUMBERS as u32,
+        Rules::Old => MOST_OLD_NUMBERS as u32,
+    }
+}
+
+fn count_in_range(rules: Rules, count: u32) -> bool
+    ensures { λ r. ⌜ r ≡ upTo (mostNumbersBy rules) count ⌝ }
+{
+    checks::both(1 <= count, count <= most_numbers(rules))
+}
 
 // What a size line is: the one asked for, or refused.
 enum CountLine {
@@ -88,6 +106,18 @@ fn outside(what: Numbers) -> Fault
     }
 }
 
+// The judge of a number. No sort looks at the numbers before it.
+fn judge(rules: Rules, what: Numbers, z: i32) -> NumberLine
+    ensures says { λ r. ⌜ ((zs : List ℤ) → valueSays zs r ≡ numberJudged rules what zs z) ⌝ }
+    ensures ranged { λ r. ⌜ ValueInRange rules what r ⌝ }
+{
+    if in_range(rules, what, z) {
+        NumberLine::Is(z)
+    } else {
+        NumberLine::Refused(outside(what))
+    }
+}
+
 fn number_on(line: &[u8], what: Numbers, rules: Rules) -> NumberLine
     ensures says { λ r. ⌜ ((zs : List ℤ) → valueSays zs r ≡ numberValue rules what zs (oneWord (integer rules) (words (now (line .entry))))) ⌝ }
     ensures ranged { λ r. ⌜ ValueInRange rules what r ⌝ }
@@ -95,11 +125,7 @@ fn number_on(line: &[u8], what: Numbers, rules: Rules) -> NumberLine
     let Integer::Is(z) = text::one_integer(line, rules) else {
         return NumberLine::Refused(Fault::LaterLine);
     };
-    if in_range(rules, what, z) {
-        NumberLine::Is(z)
-    } else {
-        NumberLine::Refused(outside(what))
-    }
+    judge(rules, what, z)
 }
 
 // The lines after the size line, into `out`, which is cleared.
@@ -182,7 +208,7 @@ pub fn read_numbers_by(
     ensures numbers { λ _. ⌜ now (out .exit) ≡ output (length (now (out .entry))) (pos 0) (λ zs. zs) (readNumbersBy rules what count (length (now (out .entry))) (now (text .entry))) ⌝ }
 {
     lent::clear_integers(out);
-    let counted = checks::both(1 <= count, count <= MOST_NUMBERS as u32);
+    let counted = count_in_range(rules, count);
     match lines::check_text(text, out.len() == count as usize, counted) {
         Check::Refused(r) => NumbersAnswer::Refused(r),
         Check::Passed => match read_lines(text, rules, what, count, out) {

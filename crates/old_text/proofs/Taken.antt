@@ -9,7 +9,7 @@ use lib.ListN.{length}
 use borrow.Author.Tests.{leb-true}
 use Rattle.graph.specs.declared.Shape.{Shape}
 use Rattle.graph.specs.declared.Refusal.{Refusal}
-use Rattle.graph.specs.Limits.{mostNumbers, mostEdges}
+use Rattle.graph.specs.Limits.{mostOldNumbers, mostEdges}
 use Rattle.graph.specs.Refusal.{Outcome, yields, refuses, told, reported}
 use Rattle.graph.specs.Graph.{Graph, shapeOf}
 use Rattle.graph.proofs.Passing.{zero-one, none-some}
@@ -60,7 +60,7 @@ module _ (text : List ℕ) (count : ℕ) (only : (what : Numbers) (k : ℕ) (zs 
   -- It is not taken for it as prices, and so not at all.
   module _ (not-prices : (zs : List ℤ) → readNumbersBy Old Prices count count text ≡ yields zs → ⊥) where
     not-numbers : (what : Numbers) → takenAsNumbers what text ≡ false
-    not-numbers what = none-some mostNumbers (λ k. takes (readNumbersBy Old what (suc k) (suc k) text)) (λ k l. go k (readNumbersBy Old what (suc k) (suc k) text) refl)
+    not-numbers what = none-some mostOldNumbers (λ k. takes (readNumbersBy Old what (suc k) (suc k) text)) (λ k l. go k (readNumbersBy Old what (suc k) (suc k) text) refl)
       where
         go : (k : ℕ) (o : Outcome (List ℤ)) → readNumbersBy Old what (suc k) (suc k) text ≡ o → takes o ≡ false
         go k (refuses f p) e = refl

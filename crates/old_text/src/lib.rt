@@ -1,6 +1,6 @@
 // Whether the old rules take a text: as a graph (sheet), as a subgraph (plan) of some graph, or as bounds (limits) or prices of some count.
 use graph::MOST_EDGES;
-use graph::MOST_NUMBERS;
+use graph::MOST_OLD_NUMBERS;
 use layout::Field;
 use layout::GraphAnswer;
 use layout::Numbers;
@@ -57,11 +57,11 @@ fn is_taken_as_numbers(text: &[u8]) -> bool
     ensures { λ r. ⌜ r ≡ (takenAsNumbers Bounds (now (text .entry)) || takenAsNumbers Prices (now (text .entry))) ⌝ }
 {
     let count = told_count(text);
-    if count > MOST_NUMBERS as u32 {
+    if count > MOST_OLD_NUMBERS as u32 {
         return false;
     }
     let n = count as usize;
-    let mut out = [0i32; MOST_NUMBERS];
+    let mut out = [0i32; MOST_OLD_NUMBERS];
     match number_reader::read_numbers_by(text, Rules::Old, Numbers::Prices, count, &mut out[..n]) {
         NumbersAnswer::Read => true,
         NumbersAnswer::Refused(r) => false,

@@ -10,25 +10,26 @@ use lib.IntN.{ℤ, pos, negsuc, _+ℤ_, _-ℤ_, _*ℤ_, *ℤ-zero}
 use lib.Signed.{_≤ℤ_}
 use Rattle.integers.specs.Integer.{up, dn}
 use Rattle.integers.proofs.Order.{order, up-add, up-diff, up-times, zero-times, nonneg}
+use Rattle.graph.specs.Limits.{greatestWeight}
 use Rattle.graph.specs.Graph.{Graph, vertices, firstEnd, secondEnd, weightAt, boundAt}
 use Rattle.graph.specs.Subgraph.{Feasible, markAt, degree}
 use Rattle.graph.specs.Passed.{Bounded}
 use Rattle.dual.specs.Prices.{Prices, vertexPrice, edgePrice}
 use Rattle.dual.specs.Gap.{halfPoints, worthAt, coverOf, gapOf}
-use Rattle.dual.specs.Solve.{withoutSets, SolverPrice, Solved}
+use Rattle.dual.specs.Solve.{outputsOf, withoutSets, SolverPrice, Solved}
 use Rattle.duality.proofs.Conditions.{Incident, DualFeasible}
 use Rattle.duality.proofs.Passed.{passed-incident}
 use Rattle.duality.proofs.Duality.{complementary, no-gap}
-use Rattle.tree.specs.Method.{level, value, cost, limit, Solvable, Good, Saturated}
+use Rattle.tree.specs.Method.{level, weightless, value, cost, limit, Solvable, Good, Served}
 use Rattle.tree.proofs.Solvable.{value-least, value-most}
-use Rattle.optimiser.specs.Optimiser.{HandedOut}
-use Rattle.optimiser.proofs.Paying.{times-one, times-none}
+use Rattle.pricing.specs.Pricing.{HandedOut}
+use Rattle.pricing.proofs.Paying.{times-one, times-none}
 
 -- A weight is its value less two levels.
-weight-value : (z : ℤ) → 0 < up (z +ℤ pos (2 * level)) → up z + 2 * level ≡ up (z +ℤ pos (2 * level)) + dn z
-weight-value z h = go (z +ℤ pos (2 * level)) (up-add z (pos (2 * level))) h
+weight-value : (z : ℤ) → 0 < up (z +ℤ pos (weightless)) → up z + weightless ≡ up (z +ℤ pos (weightless)) + dn z
+weight-value z h = go (z +ℤ pos (weightless)) (up-add z (pos (weightless))) h
   where
-    go : (y : ℤ) → up y + (dn z + 0) ≡ (up z + 2 * level) + dn y → 0 < up y → up z + 2 * level ≡ up y + dn z
+    go : (y : ℤ) → up y + (dn z + 0) ≡ (up z + weightless) + dn y → 0 < up y → up z + weightless ≡ up y + dn z
     go (pos n) e l = omega arith
     go (negsuc n) e l = absurd (omega arith)
 
@@ -37,8 +38,16 @@ taken : (k a b : ℕ) → k ≡ 1 → b ≤ a → k * (a - b) + b ≡ a
 taken k a b e l = omega (arith, times-one k (a - b) e)
 
 module _ {g : Graph} {bound : List ℤ} {x : List ℕ} {price : ℕ → ℕ} {vertex edge : List ℤ} (net : Solvable g)
-    (bounded : Bounded (vertices g) bound) (good : Good g bound x price) (done : (v : ℕ) → v < g .rows → Saturated g bound x price v)
-    (out : HandedOut g x price vertex edge) where
+    {least most : ℕ → ℕ} (bounded : Bounded (vertices g) bound) (none-least : (v : ℕ) → v < vertices g → least v ≡ 0)
+    (most-is : (v : ℕ) → v < vertices g → most v ≡ limit bound v) (good : Good g least most x price)
+    (done : (v : ℕ) → v < g .rows → Served g least most x price v) (out : HandedOut g x price vertex edge) where
+  -- No price is below 0, and none above the greatest weight.
+  lowest : (v : ℕ) → v < vertices g → level ≤ price v
+  lowest v l = good .plain v l (none-least v l)
+
+  highest : (v : ℕ) → v < vertices g → price v ≤ level + greatestWeight
+  highest = good .slim none-least
+
   abbrev P : Prices
   P = withoutSets vertex edge
 
@@ -52,15 +61,15 @@ module _ {g : Graph} {bound : List ℤ} {x : List ℕ} {price : ℕ → ℕ} {ve
   feasible = record {
     long = good .long;
     marks = λ e l. good .marks e;
-    within = λ v l. omega (order, good .within v l, no-debt v l);
+    within = λ v l. omega (order, good .within v l, most-is v l, no-debt v l);
   }
 
   vertex-price : (v : ℕ) → v < vertices g → SolverPrice (vertexPrice P v)
-  vertex-price v l = rw (out .ofVertex v l) (record { least = omega order; greatest = omega (order, good .most v l); points = pos (price v - level); even = refl })
+  vertex-price v l = rw (out .ofVertex v l) (record { least = omega order; greatest = omega (order, highest v l); points = pos (price v - level); even = refl })
 
   -- An edge's price is at most the level in points, and with its ends' prices it makes up what the edge is worth, or more where it is not chosen.
   module _ (e : ℕ) (l : e < g .edges) where
-    price-small : markAt x e * (value g e - cost g price e) ≤ level
+    price-small : markAt x e * (value g e - cost g price e) ≤ greatestWeight
     price-small = ⊎-elim
         (λ z. omega (arith, times-none (markAt x e) (value g e - cost g price e) z))
         (λ s.
@@ -69,8 +78,8 @@ module _ {g : Graph} {bound : List ℤ} {x : List ℕ} {price : ℕ → ℕ} {ve
           arith,
           taken (markAt x e) (value g e) (cost g price e) k (good .chosen e l k),
           value-most net e l,
-          good .least (firstEnd g e) (ends .first e l),
-          good .least (secondEnd g e) (ends .second e l),
+          lowest (firstEnd g e) (ends .first e l),
+          lowest (secondEnd g e) (ends .second e l),
         ))
         (eq-zero-or-pos (markAt x e))
 
@@ -94,8 +103,8 @@ module _ {g : Graph} {bound : List ℤ} {x : List ℕ} {price : ℕ → ℕ} {ve
           arith,
           taken (markAt x e) (value g e) (cost g price e) k (good .chosen e l k),
           weight-value (weightAt g e) (omega (arith, value-least net e l)),
-          good .least (firstEnd g e) (ends .first e l),
-          good .least (secondEnd g e) (ends .second e l),
+          lowest (firstEnd g e) (ends .first e l),
+          lowest (secondEnd g e) (ends .second e l),
         )
 
     enough : 2 * up (weightAt g e) ≤ paid + 2 * dn (weightAt g e)
@@ -106,8 +115,8 @@ module _ {g : Graph} {bound : List ℤ} {x : List ℕ} {price : ℕ → ℕ} {ve
           times-none (markAt x e) (value g e - cost g price e) z,
           good .loose e l z,
           weight-value (weightAt g e) (omega (arith, value-least net e l)),
-          good .least (firstEnd g e) (ends .first e l),
-          good .least (secondEnd g e) (ends .second e l),
+          lowest (firstEnd g e) (ends .first e l),
+          lowest (secondEnd g e) (ends .second e l),
         ))
         (λ s. omega (arith, just (omega (arith, good .marks e))))
         (eq-zero-or-pos (markAt x e))
@@ -137,7 +146,7 @@ module _ {g : Graph} {bound : List ℤ} {x : List ℕ} {price : ℕ → ℕ} {ve
 
   -- A vertex with a price above 0 is saturated.
   saturated : (v : ℕ) → v < vertices g → level < price v → degree g x v ≡ limit bound v
-  saturated v l s = elim (decLt v (g .rows)) [ yes d ↦ done v d s | no d ↦ good .full v (omega (arith, d)) l s ]
+  saturated v l s = elim (decLt v (g .rows)) [ yes d ↦ done v d .full s ∙ most-is v l | no d ↦ good .full v (omega (arith, d)) l s ∙ most-is v l ]
 
   vertex-slack : (v : ℕ) → v < vertices g → vertexPrice P v *ℤ (boundAt bound v -ℤ pos (degree g x v)) ≡ pos 0
   vertex-slack v l = elim (decLt level (price v)) [
@@ -163,7 +172,7 @@ module _ {g : Graph} {bound : List ℤ} {x : List ℕ} {price : ℕ → ℕ} {ve
     covering = covering;
   }
 
-  pub solved : Solved g bound x vertex edge
+  pub solved : Solved g bound (outputsOf x vertex edge)
   solved = record {
     optimal = no-gap ends dual feasible none;
     vertexRange = vertex-price;

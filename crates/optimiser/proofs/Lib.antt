@@ -1,5 +1,4 @@
 -- The laws of the stages, and that the method's end is a solution.
 pub mod Start
 pub mod Serving
-pub mod Paying
 pub mod Final

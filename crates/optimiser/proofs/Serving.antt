@@ -1,135 +1,164 @@
--- A row vertex is served by searches: each brings the end nearer, and where none is left to make the vertex is saturated or has the price 0.
-use Prim.Native.Nat.{ℕ, _+_, _≤_, _<_}
-use mathlib.Core.Path.{_≡_, sym, ap, _∙_, subst}
-use mathlib.Core.Logic.{_≢_, inl, inr, ⊎-elim}
-use mathlib.Core.Bool.{Bool, true, false, true≢false, cond, _&&_}
+-- The row vertices are served by searches: each brings the root's end nearer, and where none is left to make the root is served.
+use Prim.Native.Nat.{ℕ, _+_, _*_, _-_, _≤_, _<_}
+use mathlib.Core.Path.{_≡_, refl, sym, _∙_, subst}
+use mathlib.Core.Logic.{inl, inr, ⊎-elim}
+use mathlib.Core.Bool.{Bool, true, false, true≢false, false≢true, cond, not, _&&_}
 use mathlib.Core.List.{List}
 use native.Mathlib.Omega.{arith}
-use native.Mathlib.Decide.{ℕ-discrete, decLt}
+use native.Mathlib.Decide.{ℕ-discrete}
 use lib.Dec.{ltb}
-use lib.IntN.{ℤ}
+use lib.ListN.{length, set}
+use lib.Seq.{getD-set-same}
 use native.Mathlib.Nat.{eq-zero-or-pos}
-use borrow.Author.Tests.{ltb-true, ltb-false, lt-ltb}
-use Rattle.graph.specs.Limits.{greatestBound}
+use borrow.Author.Tests.{ltb-true, ltb-false}
+use Rattle.graph.specs.Limits.{mostVertices, greatestBound}
 use Rattle.graph.specs.Graph.{Graph, vertices}
-use Rattle.graph.proofs.Ranges.{both, _also_}
-use Rattle.tree.specs.Method.{level, limit, Saturated, Sought}
-use Rattle.tree.specs.Lists.{Rooms, Between}
+use Rattle.graph.specs.Subgraph.{degree}
+use Rattle.graph.proofs.Ranges.{both}
+use Rattle.tree.specs.Method.{level, topPrice, Rooted, Served, Sought}
+use Rattle.tree.specs.Tree.{entries}
+use Rattle.tree.specs.Lists.{Between}
+use Rattle.tree.proofs.Tests.{fails, one-of, neither, if-less, if-not-less}
 use Rattle.tree.proofs.Leading.{lt-or-ge}
-use Rattle.scan.proofs.Looking.{fails}
-use Rattle.optimiser.specs.Optimiser.{unserved, NextBound, Served}
+use Rattle.roots.specs.Roots.{Serves, unserved}
+use Rattle.optimiser.specs.Optimiser.{AllServed}
 
-module _ (room price : ℕ → ℕ) (v : ℕ) where
-  pub is-unserved : {r : Bool} → r ≡ unserved room price v → r ≡ true → (level < price v) × (0 < room v)
-  is-unserved i e =
-      let w = both (ltb level (price v)) (ltb 0 (room v)) (sym i ∙ e) in
-      (ltb-true level (price v) (w .0), ltb-true 0 (room v) (w .1))
+-- A stage went well or ill.
+pub went-ill : (t : Bool) → not t ≡ true → t ≡ false
+went-ill true e = absurd (false≢true e)
+went-ill false e = refl
 
-  not-unserved : {r : Bool} → r ≡ unserved room price v → r ≡ false → level < price v → room v ≡ 0
-  not-unserved i e l = elim (decLt 0 (room v)) [
-    | yes b ↦ absurd (true≢false (sym (lt-ltb level (price v) l also lt-ltb 0 (room v) b) ∙ sym i ∙ e))
-    | no b ↦ omega (arith, b)
-  ]
+pub went-well : (t : Bool) → not t ≡ false → t ≡ true
+went-well true e = refl
+went-well false e = absurd (true≢false e)
 
--- The measure falls with each search: the root has one edge more, or its price falls.
-pub nearer : {g : Graph} {bound : List ℤ} {t : ℕ} {x y : List ℕ} {room room′ price price′ : ℕ → ℕ} → t < vertices g → level < price t →
-    Rooms g bound x room → Rooms g bound y room′ → Sought g bound t x price y price′ → room′ t + price′ t < room t + price t
-nearer {t = t} l b old new s =
-    let a = old .each t l in
-    let c = new .each t l in
-    ⊎-elim (λ f. omega (arith, a, c, f, s .falls)) (λ f. omega (arith, a, c, f .0, f .1)) (s .step)
+module _ {g : Graph} {least most : ℕ → ℕ} {x : List ℕ} {price used list place : ℕ → ℕ} {v : ℕ} (l : v < g .rows) (in-all : v < vertices g)
+    (k : Between g least most x price used list place) where
+  -- What is to be searched from may be.
+  pub rooted : {r : Bool} → r ≡ unserved least most used price v → r ≡ true → Rooted g least most x price v
+  rooted i e =
+      let d = k .degrees .each v in-all in
+      ⊎-elim
+      (λ w.
+      let b = ltb-true (used v) (least v) w in
+      record { near = l; room = omega (arith, b, d, k .degrees .ordered v in-all); due = inl (omega (arith, b, d)) })
+      (λ w.
+      let p = both (ltb level (price v)) (ltb (used v) (most v)) w in
+      record { near = l; room = omega (arith, d, ltb-true (used v) (most v) (p .1)); due = inr (ltb-true level (price v) (p .0)) })
+      (one-of (ltb (used v) (least v)) (ltb level (price v) && ltb (used v) (most v)) (sym i ∙ e))
 
--- All stays served, by a search from a vertex of the bound b.
-pub still : {g : Graph} {bound : List ℤ} {b t : ℕ} {x y : List ℕ} {price price′ room room′ list list′ place place′ : ℕ → ℕ} → limit bound t ≡ b →
-    Served g bound b t x price room list place → Sought g bound t x price y price′ → Between g bound y price′ room′ list′ place′ →
-    Served g bound b t y price′ room′ list′ place′
-still {bound = bound} i S s k = record {
-  between = k;
-  done = λ v l h. s .done v l (λ e. ⊎-elim (λ f. omega (arith, f, i, ap (limit bound) e)) (λ f. omega (arith, f .1, e)) h) (S .done v l h);
+  -- And what is not, is served.
+  pub served : {r : Bool} → r ≡ unserved least most used price v → r ≡ false → Served g least most x price v
+  served i e =
+      let d = k .degrees .each v in-all in
+      let n = neither (ltb (used v) (least v)) (ltb level (price v) && ltb (used v) (most v)) (sym i ∙ e) in
+      record {
+        floor = omega (arith, d, ltb-false (used v) (least v) (n .0));
+        full = λ p. ⊎-elim (λ f. absurd (omega (arith, p, ltb-false level (price v) f))) (λ f. omega (arith, d, ltb-false (used v) (most v) f, k .good .within v in-all))
+            (fails (ltb level (price v)) (ltb (used v) (most v)) (n .1));
+      }
+
+-- The root stands first in the list that a search is lent.
+first-is : (order : List ℕ) (t : ℕ) → length order ≡ mostVertices + 1 → entries (set order 0 t) 0 ≡ t
+first-is order t long = getD-set-same order 0 t 0 (omega (arith, long))
+
+pub rooted-first : {g : Graph} {least most : ℕ → ℕ} {x : List ℕ} {price : ℕ → ℕ} (order : List ℕ) (t : ℕ) → length order ≡ mostVertices + 1 →
+    Rooted g least most x price t → Rooted g least most x price (entries (set order 0 t) 0)
+rooted-first order t long r = rw (first-is order t long) r
+
+pub sought-first : {g : Graph} {least most : ℕ → ℕ} {x y : List ℕ} {price price′ used list place : ℕ → ℕ} (order : List ℕ) (t : ℕ) → length order ≡ mostVertices + 1 →
+    Sought g least most (entries (set order 0 t) 0) x price y price′ × Between g least most y price′ used list place →
+    Sought g least most t x price y price′ × Between g least most y price′ used list place
+sought-first {g} {least} {most} {x} {y} {price} {price′} order t long s =
+    (subst (λ v. Sought g least most v x price y price′) (first-is order t long) (s .0), s .1)
+
+-- The first i roots are served, and no column vertex has fewer edges than in x.
+pub record ServedTo (g : Graph) (least most roots : ℕ → ℕ) (i : ℕ) (x y : List ℕ) (price used list place : ℕ → ℕ) : Type 0 where
+  pub between : Between g least most y price used list place
+  pub done : (j : ℕ) → j < i → Served g least most y price (roots j)
+  pub rises : (v : ℕ) → g .rows ≤ v → degree g x v ≤ degree g y v
+
+pub none-served : {g : Graph} {least most roots : ℕ → ℕ} {x : List ℕ} {price used list place : ℕ → ℕ} → Between g least most x price used list place →
+    ServedTo g least most roots 0 x x price used list place
+none-served k = record { between = k; done = λ j l. absurd (omega arith); rises = λ v l. omega arith }
+
+-- A root that may be searched from is not served, so that those that are stay so.
+pub still : {g : Graph} {least most roots : ℕ → ℕ} {i count t : ℕ} {x y z : List ℕ} {price price′ used used′ list list′ place place′ : ℕ → ℕ} →
+    Serves (g .rows) most roots count → i < count → ServedTo g least most roots i x y price used list place → Rooted g least most y price t →
+    Sought g least most t y price z price′ × Between g least most z price′ used′ list′ place′ → ServedTo g least most roots i x z price′ used′ list′ place′
+still {g} {least} {most} {roots} {t = t} {y = y} {price = price} S l p r s = record {
+  between = s .1;
+  done = λ j a. s .0 .done (roots j) (S .inside j (omega arith)) (λ e. unserved-root (subst (λ v. Served g least most y price v) e (p .done j a))) (p .done j a);
+  rises = λ v a. omega (arith, p .rises v a, s .0 .rises v a);
 }
+  where
+    unserved-root : Served g least most y price t → ⊥
+    unserved-root d = ⊎-elim (λ a. omega (arith, a, d .floor)) (λ a. omega (arith, d .full a, r .room)) (r .due)
 
--- One vertex more is served: t itself, or none where t has another bound.
-module _ {g : Graph} {bound : List ℤ} {b t : ℕ} {x : List ℕ} {price room list place : ℕ → ℕ} (S : Served g bound b t x price room list place) where
-  one-more : (limit bound t ≡ b → Saturated g bound x price t) → Served g bound b (t + 1) x price room list place
-  one-more own = record {
-    between = S .between;
-    done = λ v l. ⊎-elim (λ f. S .done v l (inl f))
-        (λ f. elim (ℕ-discrete v t) [
-          | yes e ↦ subst (λ v. Saturated g bound x price v) (sym e) (own (ap (limit bound) (sym e) ∙ f .0))
-          | no e ↦ S .done v l (inr (f .0, omega (arith, f .1, e)))
-        ]);
-  }
-
-  pub served-more : {r : Bool} → t < vertices g → r ≡ unserved room price t → r ≡ false → Served g bound b (t + 1) x price room list place
-  served-more l i e = one-more (λ k h. omega (arith, S .between .rooms .each t l, not-unserved room price t i e h))
-
-  pub served-other : limit bound t ≢ b → Served g bound b (t + 1) x price room list place
-  served-other n = one-more (λ k. absurd (n k))
-
-  pub served-end : {m : ℕ} → m ≤ t → Served g bound b m x price room list place
-  served-end l = record { between = S .between; done = λ v a. ⊎-elim (λ f. S .done v a (inl f)) (λ f. S .done v a (inr (f .0, omega (arith, f .1)))) }
-
--- ---- the bounds, from the greatest on
-
--- The next bound below b, of the first k row vertices.
-pub next-none : {bound : List ℤ} {b : ℕ} → NextBound 0 bound b 0
-next-none = record { low = λ v l. absurd (omega arith); below = λ k. absurd (omega arith) }
-
-pub next-more : (t : Bool) {bound : List ℤ} {b k r r′ h : ℕ} → NextBound k bound b r → h ≡ limit bound k → t ≡ (ltb r h && ltb h b) → r′ ≡ cond t h r →
-    NextBound (k + 1) bound b r′
-next-more true {bound} {b} {k} {r} {r′} {h} n i e p =
-    let w = both (ltb r h) (ltb h b) (sym e) in
-    let l = ltb-true r h (w .0) in
-    let m = ltb-true h b (w .1) in
-    record {
-      low = λ v a c. elim (ℕ-discrete v k) [ yes q ↦ omega (arith, ap (limit bound) q, i, p) | no q ↦ omega (arith, n .low v (omega (arith, q)) c, l, p) ];
-      below = λ z. omega (arith, m, p);
-    }
-next-more false {bound} {b} {k} {r} {r′} {h} n i e p = record {
-  low = λ v a c. elim (ℕ-discrete v k) [
-    | yes q ↦
-        ⊎-elim (λ f. omega (arith, ltb-false r h f, ap (limit bound) q, i, p)) (λ f. absurd (omega (arith, ltb-false h b f, ap (limit bound) q, i, c)))
-        (fails (ltb r h) (ltb h b) (sym e))
-    | no q ↦ omega (arith, n .low v (omega (arith, q)) c, p)
+-- One root more is served.
+pub one-more : {g : Graph} {least most roots : ℕ → ℕ} {i : ℕ} {x y : List ℕ} {price used list place : ℕ → ℕ} → ServedTo g least most roots i x y price used list place →
+    Served g least most y price (roots i) → ServedTo g least most roots (i + 1) x y price used list place
+one-more {g} {least} {most} {roots} {i} {y = y} {price = price} p s = record {
+  between = p .between;
+  done = λ j l. elim (ℕ-discrete j i) [
+    | yes e ↦ subst (λ k. Served g least most y price (roots k)) (sym e) s
+    | no n ↦ p .done j (omega (arith, n))
   ];
-  below = λ z. omega (arith, n .below (omega (arith, z, p)), p);
+  rises = p .rises;
 }
 
-pub next-end : {bound : List ℤ} {b k m r : ℕ} → NextBound k bound b r → m ≤ k → NextBound m bound b r
-next-end n l = record { low = λ v a. n .low v (omega arith); below = n .below }
-
--- No vertex comes before those of the greatest bound.
-pub first-served : {g : Graph} {bound : List ℤ} {b : ℕ} {x : List ℕ} {price room list place : ℕ → ℕ} → g .rows ≤ vertices g →
-    Between g bound x price room list place → NextBound (g .rows) bound (greatestBound + 1) b → Served g bound b 0 x price room list place
-first-served a k n = record {
-  between = k;
-  done = λ v l. ⊎-elim (λ f. absurd (omega (arith, f, n .low v l (omega (arith, k .rooms .few v (omega arith)))))) (λ f. absurd (omega (arith, f .1)));
-}
-
--- Those of the bound b are served, and the next bound follows.
-pub next-served : {g : Graph} {bound : List ℤ} {b c : ℕ} {x : List ℕ} {price room list place : ℕ → ℕ} → Served g bound b (g .rows) x price room list place →
-    NextBound (g .rows) bound b c → Served g bound c 0 x price room list place
-next-served {bound = bound} {b} {c} S n = record {
-  between = S .between;
+-- All are: a row vertex that is no root has the most 0, so no edge, and the least 0.
+pub all-served : {g : Graph} {least most roots : ℕ → ℕ} {i count : ℕ} {x y : List ℕ} {price used list place : ℕ → ℕ} → g .rows ≤ vertices g →
+    Serves (g .rows) most roots count → count ≤ i → ServedTo g least most roots i x y price used list place → AllServed g least most x y price used list place
+all-served {g} {least} {most} {y = y} {price = price} a S c p = record {
+  between = p .between;
   done = λ v l. ⊎-elim
-      (λ f. S .done v l
-      (⊎-elim (λ a. absurd (omega (arith, f, n .low v l a))) (λ a. elim (ℕ-discrete (limit bound v) b) [ yes e ↦ inr (e, l) | no e ↦ inl (omega (arith, a, e)) ])
-      (lt-or-ge (limit bound v) b)))
-      (λ f. absurd (omega (arith, f .1)));
+      (λ z.
+      let n : v < vertices g = omega arith in
+      record { floor = omega (arith, z, p .between .degrees .ordered v n); full = λ h. omega (arith, z, p .between .good .within v n) })
+      (λ q. let r = S .all v l q in subst (λ v. Served g least most y price v) (r .2) (p .done (r .0) (omega (arith, r .1, c))))
+      (eq-zero-or-pos (most v));
+  rises = p .rises;
 }
 
--- The bounds fall, to 0.
-pub bound-falls : {rows : ℕ} {bound : List ℤ} {b c : ℕ} → NextBound rows bound b c → 0 < b → c < b
-bound-falls {c = c} n p = ⊎-elim (λ z. omega (arith, z)) (λ q. n .below q) (eq-zero-or-pos c)
+-- ---- the measure
 
-pub no-bound-left : {g : Graph} {bound : List ℤ} {b : ℕ} {x : List ℕ} {price room list place : ℕ → ℕ} → b ≤ 0 → Served g bound b 0 x price room list place →
-    Served g bound 0 0 x price room list place
-no-bound-left l S = record {
-  between = S .between;
-  done = λ v a. ⊎-elim (λ f. S .done v a (inl (omega (arith, f, l)))) (λ f. absurd (omega (arith, f .1)));
-}
+-- What is left of a root: its room and its price. It is below this, whatever the root.
+abbrev pub whole : ℕ
+whole = greatestBound + topPrice + 1
 
--- All are served: a vertex of the bound 0 has no edge.
-pub all-served : {g : Graph} {bound : List ℤ} {x : List ℕ} {price room list place : ℕ → ℕ} → g .rows ≤ vertices g → Served g bound 0 0 x price room list place →
-    (v : ℕ) → v < g .rows → Saturated g bound x price v
-all-served {bound = bound} a S v l = ⊎-elim (λ z h. omega (arith, z, S .between .good .within v (omega arith))) (λ p. S .done v l (inl p)) (eq-zero-or-pos (limit bound v))
+abbrev pub leftOf : (ℕ → ℕ) → (ℕ → ℕ) → (ℕ → ℕ) → ℕ → ℕ
+leftOf most used price v = (most v - used v) + price v
+
+-- What is left of all roots from place i on.
+abbrev pub leftFrom : (ℕ → ℕ) → (ℕ → ℕ) → (ℕ → ℕ) → (ℕ → ℕ) → ℕ → ℕ → ℕ
+leftFrom most roots used price count i = (count - i) * whole + cond (ltb i count) (leftOf most used price (roots i)) 0
+
+-- It falls with each search: the root has one edge more, or its price falls.
+pub left-fewer : {g : Graph} {least most roots : ℕ → ℕ} {count i : ℕ} {x y : List ℕ} {price price′ used used′ list list′ place place′ : ℕ → ℕ} →
+    Serves (g .rows) most roots count → i < count → g .rows ≤ vertices g → Between g least most x price used list place → Rooted g least most x price (roots i) →
+    Sought g least most (roots i) x price y price′ × Between g least most y price′ used′ list′ place′ →
+    leftFrom most roots used′ price′ count i < leftFrom most roots used price count i
+left-fewer {g} {most = most} {roots} {i = i} {price = price} {price′} {used} {used′} S b all k r f =
+    omega (arith, nearer, if-less (leftOf most used price t) 0 b, if-less (leftOf most used′ price′ t) 0 b)
+  where
+    t : ℕ
+    t = roots i
+
+    nearer : leftOf most used′ price′ t < leftOf most used price t
+    nearer =
+        let l : t < vertices g = omega (arith, S .inside i b) in
+        let a = k .degrees .each t l in
+        let c = f .1 .degrees .each t l in
+        let s = f .0 in
+        ⊎-elim (λ h. omega (arith, a, c, h, s .falls, r .room))
+        (λ h. ⊎-elim (λ d. absurd (omega (arith, d, h .2))) (λ d. omega (arith, a, c, h .0, h .1, d)) (r .due)) (s .step)
+
+pub left-next : {g : Graph} {least most roots : ℕ → ℕ} {x : List ℕ} {price used list place : ℕ → ℕ} {count i : ℕ} → Serves (g .rows) most roots count →
+    g .rows ≤ vertices g → Between g least most x price used list place → i < count → leftFrom most roots used price count (i + 1) < leftFrom most roots used price count i
+left-next {g} {least} {most} {roots} {price = price} {used} {count = count} {i} S a k l = ⊎-elim
+    (λ m.
+    let v : roots (i + 1) < vertices g = omega (arith, S .inside (i + 1) m) in
+    omega (arith, if-less (leftOf most used price (roots (i + 1))) 0 m, k .degrees .few (roots (i + 1)) v, k .good .high (roots (i + 1)) v))
+    (λ m. omega (arith, if-not-less (leftOf most used price (roots (i + 1))) 0 m))
+    (lt-or-ge (i + 1) count)

@@ -1,18 +1,16 @@
--- The stages of the method: the first prices, each row vertex served, and the prices that are handed out.
-use Prim.Native.Nat.{ℕ, _*_, _-_, _≤_, _<_}
+-- The stages of the method: the first prices, the table of the vertices, and each row vertex served.
+use Prim.Native.Nat.{ℕ, _+_, _≤_, _<_}
 use mathlib.Core.Path.{_≡_}
-use mathlib.Core.Logic.{_≢_, _⊎_}
-use mathlib.Core.Bool.{Bool, _&&_}
+use mathlib.Core.Logic.{_≢_}
+use mathlib.Core.Bool.{Bool, true, false}
 use mathlib.Core.List.{List}
-use lib.Dec.{ltb}
-use lib.IntN.{ℤ, pos}
-use lib.ListN.{getD}
+use lib.IntN.{ℤ}
+use lib.ListN.{length}
+use Rattle.graph.specs.Limits.{mostVertices, greatestWeight}
 use Rattle.graph.specs.Graph.{Graph, vertices}
-use Rattle.graph.specs.Subgraph.{markAt}
-use Rattle.graph.specs.Passed.{Passed, MarksHold}
-use Rattle.dual.specs.Gap.{halfPoints}
-use Rattle.tree.specs.Method.{level, value, cost, limit, Saturated}
-use Rattle.tree.specs.Lists.{Between}
+use Rattle.graph.specs.Subgraph.{degree}
+use Rattle.tree.specs.Method.{level, value, cost, limit, NoneMeets, Served}
+use Rattle.tree.specs.Lists.{leasts, mosts, mostTable, Between}
 
 -- The price of vertex v is raised to k, if it is not as high already.
 pub record Raised (v k : ℕ) (old new : ℕ → ℕ) : Type 0 where
@@ -24,40 +22,23 @@ pub record Raised (v k : ℕ) (old new : ℕ → ℕ) : Type 0 where
 -- The first prices, after n edges: column vertices have the price 0, and the prices of row vertices make the slack of each of the n edges at least 0.
 pub record Started (g : Graph) (price : ℕ → ℕ) (n : ℕ) : Type 0 where
   pub least : (v : ℕ) → v < vertices g → level ≤ price v
-  pub most : (v : ℕ) → v < vertices g → price v ≤ 2 * level
+  pub most : (v : ℕ) → v < vertices g → price v ≤ level + greatestWeight
   pub column : (v : ℕ) → g .rows ≤ v → v < vertices g → price v ≡ level
   pub loose : (e : ℕ) → e < n → value g e ≤ cost g price e
 
--- Whether vertex v is to be searched from: its price is above 0, and it has room.
-abbrev pub unserved : (ℕ → ℕ) → (ℕ → ℕ) → ℕ → Bool
-unserved room price v = ltb level (price v) && ltb 0 (room v)
+-- The table of vertices with these bounds for mosts, and with no leasts.
+pub record BoundsTabled (bound : List ℤ) (table : List ℕ) : Type 0 where
+  pub least : (v : ℕ) → v < mostVertices → leasts table v ≡ 0
+  pub most : (v : ℕ) → v < length bound → mosts table v ≡ limit bound v
+  pub long : length table ≡ mostTable
 
--- The next bound below b: no row vertex has one between it and b, and it is 0 where none has one below b.
-pub record NextBound (rows : ℕ) (bound : List ℤ) (b r : ℕ) : Type 0 where
-  pub low : (v : ℕ) → v < rows → limit bound v < b → limit bound v ≤ r
-  pub below : 0 < r → r < b
+-- What serving the row vertices leaves, from the subgraph x to y: all is kept, each row vertex is served, and no column vertex has fewer edges; or no subgraph
+-- meets both bounds.
+pub record AllServed (g : Graph) (least most : ℕ → ℕ) (x y : List ℕ) (price used list place : ℕ → ℕ) : Type 0 where
+  pub between : Between g least most y price used list place
+  pub done : (v : ℕ) → v < g .rows → Served g least most y price v
+  pub rises : (v : ℕ) → g .rows ≤ v → degree g x v ≤ degree g y v
 
--- Vertex v, of this bound, comes before vertex t of the bound b: vertices of a greater bound come first.
-abbrev pub Before : ℕ → ℕ → ℕ → ℕ → Type 0
-Before b t bound v = (b < bound) ⊎ ((bound ≡ b) × (v < t))
-
--- The row vertices that come before vertex t of the bound b are served: all is kept, and each of them with a price above 0 is saturated.
-pub record Served (g : Graph) (bound : List ℤ) (b t : ℕ) (x : List ℕ) (price room list place : ℕ → ℕ) : Type 0 where
-  pub between : Between g bound x price room list place
-  pub done : (v : ℕ) → v < g .rows → Before b t (limit bound v) v → Saturated g bound x price v
-
--- The prices of edges can be told: where an edge is chosen, its weight is not below its ends' prices.
-pub record Payable (g : Graph) (x : List ℕ) (price : ℕ → ℕ) : Type 0 where
-  pub passed : Passed g
-  pub most : (v : ℕ) → v < vertices g → price v ≤ 2 * level
-  pub marks : MarksHold (g .edges) x
-  pub chosen : (e : ℕ) → e < g .edges → markAt x e ≡ 1 → cost g price e ≤ value g e
-
--- The price of edge e in points: where it is chosen, what its weight is above its ends' prices.
-abbrev pub edgePriceOf : Graph → List ℕ → (ℕ → ℕ) → ℕ → ℕ
-edgePriceOf g x price e = markAt x e * (value g e - cost g price e)
-
--- The prices that are handed out, in half points.
-pub record HandedOut (g : Graph) (x : List ℕ) (price : ℕ → ℕ) (vertex edge : List ℤ) : Type 0 where
-  pub ofVertex : (v : ℕ) → v < vertices g → getD vertex v (pos 0) ≡ halfPoints (pos (price v - level))
-  pub ofEdge : (e : ℕ) → e < g .edges → getD edge e (pos 0) ≡ halfPoints (pos (edgePriceOf g x price e))
+pub record Serving (g : Graph) (least most : ℕ → ℕ) (x y : List ℕ) (price used list place : ℕ → ℕ) (r : Bool) : Type 0 where
+  pub served : r ≡ true → AllServed g least most x y price used list place
+  pub none : r ≡ false → NoneMeets g least most

@@ -19,7 +19,7 @@ use Rattle.layout.specs.declared.Numbers.{Numbers}
 use Rattle.layout.specs.declared.Numbers.the-variants.{Bounds, Prices}
 use Rattle.layout.specs.Text.{lines, words, integer, oneWord}
 use Rattle.layout.specs.Lines.{State, start, sizing, reading, goes, stops, Layout, readText}
-use Rattle.layout.specs.NumberText.{greatestPriceBy, inRange, outside, numberHeader, numberValue, numberLayout, numberReaderTests, readNumbersBy}
+use Rattle.layout.specs.NumberText.{greatestPriceBy, inRange, outside, numberHeader, numberValue, numberLayout, numberReaderTestsBy, readNumbersBy}
 use Rattle.readback.proofs.Trace.{Reads, done, by-header, skipped, by-size, blank-line, by-line, reads-yield, yield-reads}
 
 -- The layout of numbers that are written by some rules and whose range is by others; where both are the same, it is the layout of these.
@@ -127,4 +127,4 @@ pub bounds-are-prices : (rules : Rules) (count n : ℕ) (text : List ℕ) (zs : 
     → readNumbersBy rules Prices count n text ≡ yields zs
 unfolding readNumbersBy
 bounds-are-prices rules count n text zs h =
-    numbers-alike rules rules rules Bounds Prices count (numberReaderTests count n text) text zs (λ k l i. bound-is-price rules (getD zs k (pos 0)) i) h
+    numbers-alike rules rules rules Bounds Prices count (numberReaderTestsBy rules count n text) text zs (λ k l i. bound-is-price rules (getD zs k (pos 0)) i) h

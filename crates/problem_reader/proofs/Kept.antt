@@ -16,7 +16,7 @@ use Rattle.graph.specs.declared.Fault.the-variants.{TextLength, Header, SizeLin
 use Rattle.graph.specs.declared.Refusal.{Refusal}
 use Rattle.graph.specs.declared.Shape.{Shape}
 use Rattle.graph.specs.Refusal.{Outcome, yields, refuses, told, once, passing, reported}
-use Rattle.graph.specs.Limits.{mostEdges, mostNumbers}
+use Rattle.graph.specs.Limits.{mostEdges}
 use Rattle.graph.specs.Graph.{Graph, shapeOf, upTo, shapeInRange, sizesInRange, endsInRange, weightInRange, joined}
 use Rattle.graph.specs.Tests.{graphLengths, graphTests}
 use Rattle.graph.proofs.Ranges.{_also_}
@@ -34,7 +34,7 @@ use Rattle.layout.specs.declared.SubgraphAnswer.the-variants as SubgraphAnswer
 use Rattle.layout.specs.Text.{words, natural, integer, oneWord, twoWords, threeWords, textFits, lines, lineFits, blankLine, commentLine}
 use Rattle.layout.specs.Lines.{Step, goes, stops, State, start, sizing, reading, Layout, sized, begun, onLine, atEnd, onStep, readLines, readText}
 use Rattle.layout.specs.GraphText.{noEdges, shapeFrom, graphSizes, graphEdge, withEdge, edgeOn, graphLayout, readGraphBy}
-use Rattle.layout.specs.NumberText.{inRange, outside, numberSizes, numberValue, numberLayout, readNumbersBy}
+use Rattle.layout.specs.NumberText.{mostNumbersBy, inRange, outside, numberSizes, numberValue, numberLayout, readNumbersBy}
 use Rattle.layout.specs.SubgraphText.{Marked, subgraphSizes, edgeWith, subgraphMark, subgraphEdge, subgraphLayout, readSubgraphBy}
 use Rattle.layout.specs.Answers.{graphSays, numbersSay, subgraphSays}
 
@@ -213,10 +213,10 @@ pub numbers-filled : (rules : Rules) (what : Numbers) (count n : ℕ) (text : Li
     AllRead count n zs
 unfolding readNumbersBy
 numbers-filled rules what count n text zs e =
-    let s = once-yields LentLength (eqb n count) (once Sizes (upTo mostNumbers count) ∷ once TextLength (textFits text) ∷ [])
+    let s = once-yields LentLength (eqb n count) (once Sizes (upTo (mostNumbersBy rules) count) ∷ once TextLength (textFits text) ∷ [])
     (readText (numberLayout rules what count) text) zs e in
     let t = text-keeps (numberLayout rules what count) (Few count) (numbers-kept rules what count) text zs
-    (passes (once Sizes (upTo mostNumbers count) ∷ once TextLength (textFits text) ∷ []) (readText (numberLayout rules what count) text) zs
+    (passes (once Sizes (upTo (mostNumbersBy rules) count) ∷ once TextLength (textFits text) ∷ []) (readText (numberLayout rules what count) text) zs
     (s .1) .1) in
     let p : Few count zs = subst (Few count) (sym (t .same)) (t .keeps) in
     let m : count ≤ length zs = ltb-false (length zs) count (ap (λ (xs : List ℤ). ltb (length xs) count) (t .same) ∙ t .full) in

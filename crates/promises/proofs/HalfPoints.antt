@@ -16,12 +16,12 @@ use Rattle.layout.specs.declared.Rules.the-variants.{Old}
 use Rattle.layout.specs.declared.Numbers.the-variants as Numbers
 use Rattle.layout.specs.NumberText.{inRange}
 use Rattle.dual.specs.declared.Measures.{Measures}
-use Rattle.dual.specs.Prices.{Prices, one}
-use Rattle.dual.specs.Sets.{covers, capacity}
+use Rattle.dual.specs.Prices.{Prices}
+use Rattle.dual.specs.Sets.{one, covers, capacity}
 use Rattle.dual.specs.Gap.{halfPoints, worthAt, coverOf, totalOf, gapOf, vertexSlack, setSlack, edgeSlack, coverSlack, chosenCovered}
 use Rattle.dual.specs.Solve.{SolverPrice}
 use Rattle.duality.proofs.HalfPoints.{Half, half-self, half-add, half-diff, half-times, times-half, half-sum}
-use Rattle.duality.proofs.Passed.{measure-passed, solve-passed}
+use Rattle.duality.proofs.Passed.{measure-passed}
 use Rattle.duality.proofs.Measured.{measured, certified}
 use Rattle.promises.specs.Promises.{CountedInHalfPoints, EvenPrice, SolverPricesEven, TwiceWhatIsLacking, doubled, StoredPricesDoubled}
 
@@ -41,9 +41,9 @@ even-price p =
     (up (p .points), n ∙ ap pos u, omega (order, u, ap dn n, p .greatest))
 
 pub solver-prices-even : SolverPricesEven
-solver-prices-even g bound index lent x vertex edge workspace L e =
-    let S = L .solved e in
-    (λ v l. even-price (S .vertexRange v l), λ d l. even-price (S .edgeRange d l))
+solver-prices-even g bound index lent S workspace L e =
+    let D = L .solved e in
+    (λ v l. even-price (D .vertexRange v l), λ d l. even-price (D .edgeRange d l))
 
 -- Whole points that are less than one, twice, are none.
 half-lack : (a b : ℤ) {z : ℤ} → halfPoints (a -ℤ b) ≤ℤ z → z ≤ℤ pos 1 → a ≤ℤ b
@@ -55,10 +55,7 @@ twice-what-is-lacking = record {
   best = λ g bound x P M e small.
       let m = measured e in
       record { feasible = m .feasible; most = λ y F. half-lack (weightOf g y) (weightOf g x) (m .lack y F) small };
-  exact = λ g bound index lent x vertex edge workspace L e y F.
-      let a = solve-passed g bound index lent e in
-      let c = certified index lent e (L .vertexLong ∙ a .vertexLong) (L .edgeLong ∙ a .edgeLong) (L .solved e) y F in
-      (c .numbers, c .measured, c .exact);
+  exact = λ g bound index lent S workspace L e y F. let c = certified L e y F in (c .numbers, c .measured, c .exact);
 }
 
 -- ---- doubled prices
@@ -95,7 +92,7 @@ module _ (g : Graph) (P : Prices) where
   cover-doubled e =
       half-add
       (half-add (half-add (price-doubled (P .vertex) (firstEnd g e)) (price-doubled (P .vertex) (secondEnd g e))) (price-doubled (P .edge) e))
-      (half-sum (P .sets) (λ s. half-times (pos (one (covers g P s e))) (price-doubled (P .set) s)))
+      (half-sum (P .sets) (λ s. half-times (pos (one (covers g (P .marks) s e))) (price-doubled (P .set) s)))
 
   module _ (bound : List ℤ) where
     total-doubled : Half (totalOf g bound (doubled P)) (totalOf g bound P)
@@ -103,7 +100,7 @@ module _ (g : Graph) (P : Prices) where
         half-add
         (half-add
         (half-sum (vertices g) (λ v. half-times (boundAt bound v) (price-doubled (P .vertex) v)))
-        (half-sum (P .sets) (λ s. half-times (pos (capacity g bound P s)) (price-doubled (P .set) s))))
+        (half-sum (P .sets) (λ s. half-times (pos (capacity g bound (P .marks) s)) (price-doubled (P .set) s))))
         (half-sum (g .edges) (price-doubled (P .edge)))
 
     module _ (x : List ℕ) where
@@ -115,7 +112,7 @@ module _ (g : Graph) (P : Prices) where
 
       sets-doubled : Half (setSlack g bound x (doubled P)) (setSlack g bound x P)
       sets-doubled =
-          half-sum (P .sets) (λ s. times-half (pos (capacity g bound P s) -ℤ pos (chosenCovered g x P s)) (price-doubled (P .set) s))
+          half-sum (P .sets) (λ s. times-half (pos (capacity g bound (P .marks) s) -ℤ pos (chosenCovered g x (P .marks) s)) (price-doubled (P .set) s))
 
   module _ (x : List ℕ) where
     edges-doubled : Half (edgeSlack g x (doubled P)) (edgeSlack g x P)

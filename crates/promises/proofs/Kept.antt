@@ -40,7 +40,7 @@ use Rattle.dual.specs.Prices.{Prices}
 use Rattle.dual.specs.Measure.{measure, measures, measureTests}
 use Rattle.dual.specs.Solve.{solverTests, solve}
 use Rattle.cases.proofs.Trying.{some-optimal}
-use Rattle.duality.proofs.Passed.{Priced, measure-takes, solve-passed}
+use Rattle.duality.proofs.Passed.{Priced, measure-takes}
 use Rattle.duality.proofs.Measured.{measured, certified}
 use Rattle.readback.proofs.ReadBack.{read-back, written-apart}
 use Rattle.promises.specs.Promises.{Listed, Refuses, ZeroAfterRefusal, Passing, Refusing, ReadAsDefined, ReadsBack, LargestMerit, RefusedJustWhereListed}
@@ -106,7 +106,7 @@ refused-by (refuses f q) i p e = (f, ap (refuses f) (let s : q ≡ p = cc in s))
 pub zero-after-refusal : ZeroAfterRefusal
 zero-after-refusal = record {
   outputs = λ n z f W i p e. ap (output n z f) (refused-by W i p e .1);
-  solver = λ g bound index lent x vertex edge workspace L i p e.
+  solver = λ g bound index lent S workspace L i p e.
       let r = refused-by (solve g bound index lent) i p e in (L .refused (r .0) p (r .1), L .cleared);
 }
 
@@ -150,7 +150,7 @@ pub reads-back : ReadsBack
 reads-back = record { back = read-back; apart = written-apart }
 
 pub largest-merit : LargestMerit
-largest-merit g bound index lent x vertex edge workspace L e = let O = L .solved e .optimal in (O .feasible, O .most)
+largest-merit g bound index lent S workspace L e = let O = L .solved e .optimal in (O .feasible, O .most)
 
 -- What is told of a refusal does not depend on what would be yielded.
 told-alike : {A B : Type 0} {n q i p : ℕ} → _≡_ {A = Told A} (refusedWith n q) (refusedWith i p) → _≡_ {A = Told B} (refusedWith n q) (refusedWith i p)
@@ -247,16 +247,13 @@ refused-just-where-listed = record {
 -- ---- Demand 3
 
 pub solver-certifies : SolverCertifies
-solver-certifies g bound index lent x vertex edge workspace L e =
-    let S = L .solved e in
-    let a = solve-passed g bound index lent e in
+solver-certifies g bound index lent S workspace L e =
+    let D = L .solved e in
     record {
-      vertexRange = S .vertexRange;
-      edgeRange = S .edgeRange;
-      covering = S .covering;
-      exact = λ y F.
-          let c = certified index lent e (L .vertexLong ∙ a .vertexLong) (L .edgeLong ∙ a .edgeLong) S y F in
-          (c .numbers, c .measured, c .noGap);
+      vertexRange = D .vertexRange;
+      edgeRange = D .edgeRange;
+      covering = D .covering;
+      exact = λ y F. let c = certified L e y F in (c .numbers, c .measured, c .noGap);
     }
 
 -- What has passed, as the laws of measuring take it.

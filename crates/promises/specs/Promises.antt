@@ -38,7 +38,7 @@ use Rattle.dual.specs.Prices.{Prices, vertexPrice, edgePrice, setPrice}
 use Rattle.dual.specs.Sets.{keepsRules}
 use Rattle.dual.specs.Gap.{halfPoints, worthAt, coverOf, covered, totalOf, gapOf, vertexSlack, setSlack, edgeSlack, coverSlack}
 use Rattle.dual.specs.Measure.{measure, measureTests}
-use Rattle.dual.specs.Solve.{Lent, solverTests, solve, withoutSets, SolverPrice, Zero, Left}
+use Rattle.dual.specs.Solve.{Lent, Outputs, solverTests, solve, solverPrices, SolverPrice, Zero, Left}
 use Rattle.duality.specs.Meaning.{Meaning}
 use Rattle.tidying.specs.Alike.{SameSheet, Rising, ReadAlike}
 use Rattle.report.specs.Programs.{lentFor, tidyOutput, toDimacsOutput, fromDimacsOutput}
@@ -58,8 +58,8 @@ Refuses o number place = told o ≡ refusedWith number place
 -- solver's, and its workspace.
 pub record ZeroAfterRefusal : Type 1 where
   pub outputs : {A N : Type 0} (n : ℕ) (z : N) (f : A → List N) (W : Outcome A) (i p : ℕ) → Refuses W i p → output n z f W ≡ replicate n z
-  pub solver : (g : Graph) (bound : List ℤ) (index : List ℕ) (lent : Lent) (x : List ℕ) (vertex edge workspace : List ℤ) → Left g bound index lent x vertex edge workspace →
-      (i p : ℕ) → Refuses (solve g bound index lent) i p → Zero lent x vertex edge × (workspace ≡ replicate (lent .workspace) (pos 0))
+  pub solver : (g : Graph) (bound : List ℤ) (index : List ℕ) (lent : Lent) (S : Outputs) (workspace : List ℤ) → Left g bound index lent S workspace →
+      (i p : ℕ) → Refuses (solve g bound index lent) i p → Zero lent S × (workspace ≡ replicate (lent .workspace) (pos 0))
 
 -- ---- Demand 2
 
@@ -89,8 +89,8 @@ pub record ReadsBack : Type 0 where
 -- "The solver's plan is within the limits and of largest merit."
 abbrev pub LargestMerit : Type 0
 LargestMerit =
-    (g : Graph) (bound : List ℤ) (index : List ℕ) (lent : Lent) (x : List ℕ) (vertex edge workspace : List ℤ) → Left g bound index lent x vertex edge workspace →
-    solve g bound index lent ≡ yields tt → Feasible g bound x × ((y : List ℕ) → Feasible g bound y → weightOf g y ≤ℤ weightOf g x)
+    (g : Graph) (bound : List ℤ) (index : List ℕ) (lent : Lent) (S : Outputs) (workspace : List ℤ) → Left g bound index lent S workspace →
+    solve g bound index lent ≡ yields tt → Feasible g bound (S .chosen) × ((y : List ℕ) → Feasible g bound y → weightOf g y ≤ℤ weightOf g (S .chosen))
 
 -- "Refusals come in the listed situations and in no others": a call refuses with a number at a place just where its tests do, and a reader also where
 -- the lines do.
@@ -115,18 +115,18 @@ pub record RefusedJustWhereListed : Type 0 where
 
 -- What the solver's prices show: they are even, in range and cover every edge, and a feasible subgraph y, measured against them without odd sets, is
 -- accepted and has the solver's weight exactly where its gap is 0.
-pub record Certifies (g : Graph) (bound : List ℤ) (x : List ℕ) (vertex edge : List ℤ) : Type 0 where
-  pub vertexRange : (v : ℕ) → v < vertices g → SolverPrice (vertexPrice (withoutSets vertex edge) v)
-  pub edgeRange : (e : ℕ) → e < g .edges → SolverPrice (edgePrice (withoutSets vertex edge) e)
-  pub covering : (e : ℕ) → e < g .edges → worthAt g e ≤ℤ coverOf g (withoutSets vertex edge) e
+pub record Certifies (g : Graph) (bound : List ℤ) (S : Outputs) : Type 0 where
+  pub vertexRange : (v : ℕ) → v < vertices g → SolverPrice (vertexPrice (solverPrices S) v)
+  pub edgeRange : (e : ℕ) → e < g .edges → SolverPrice (edgePrice (solverPrices S) e)
+  pub covering : (e : ℕ) → e < g .edges → worthAt g e ≤ℤ coverOf g (solverPrices S) e
   pub exact : (y : List ℕ) → Feasible g bound y →
-      (M : Measures) × (measure g bound y (withoutSets vertex edge) ≡ yields M) × ((M .gap ≡ pos 0) ↔ (weightOf g y ≡ weightOf g x))
+      (M : Measures) × (measure g bound y (solverPrices S) ≡ yields M) × ((M .gap ≡ pos 0) ↔ (weightOf g y ≡ weightOf g (S .chosen)))
 
 -- "The solver's prices are in range and cover every pair, and a plan within the limits has the solver's merit exactly when its measured gap is 0."
 abbrev pub SolverCertifies : Type 0
 SolverCertifies =
-    (g : Graph) (bound : List ℤ) (index : List ℕ) (lent : Lent) (x : List ℕ) (vertex edge workspace : List ℤ) → Left g bound index lent x vertex edge workspace →
-    solve g bound index lent ≡ yields tt → Certifies g bound x vertex edge
+    (g : Graph) (bound : List ℤ) (index : List ℕ) (lent : Lent) (S : Outputs) (workspace : List ℤ) → Left g bound index lent S workspace →
+    solve g bound index lent ≡ yields tt → Certifies g bound S
 
 -- A graph with its bounds passes: its lengths, its numbers and the bounds'.
 pub record Accepts (g : Graph) (bound : List ℤ) : Type 0 where
@@ -139,13 +139,13 @@ pub record Covers (g : Graph) (bound : List ℤ) (P : Prices) : Type 0 where
   pub vertexLong : length (P .vertex) ≡ vertices g
   pub edgeLong : length (P .edge) ≡ g .edges
   pub setLong : length (P .set) ≡ P .sets
-  pub vertexWordsLong : length (P .setVertices) ≡ vertexWords * P .sets
-  pub edgeWordsLong : length (P .setEdges) ≡ edgeWords * P .sets
+  pub vertexWordsLong : length (P .marks .vertices) ≡ vertexWords * P .sets
+  pub edgeWordsLong : length (P .marks .edges) ≡ edgeWords * P .sets
   pub vertexRange : (v : ℕ) → v < vertices g → priceInRange (vertexPrice P v) ≡ true
   pub edgeRange : (e : ℕ) → e < g .edges → priceInRange (edgePrice P e) ≡ true
   pub setRange : (s : ℕ) → s < P .sets → priceInRange (setPrice P s) ≡ true
   pub fewSets : P .sets ≤ mostSets
-  pub rules : (s : ℕ) → s < P .sets → keepsRules g bound P s ≡ true
+  pub rules : (s : ℕ) → s < P .sets → keepsRules g bound (P .marks) s ≡ true
   pub covering : (e : ℕ) → e < g .edges → worthAt g e ≤ℤ coverOf g P e
 
 -- "On either sort of sheet the gap and leftovers are as defined, none below 0, they add up to the gap, and the gap is at least what the plan lacks", which
@@ -297,9 +297,9 @@ EvenPrice z = (k : ℕ) × (z ≡ pos (2 * k)) × (2 * k ≤ greatestSolverPrice
 
 abbrev pub SolverPricesEven : Type 0
 SolverPricesEven =
-    (g : Graph) (bound : List ℤ) (index : List ℕ) (lent : Lent) (x : List ℕ) (vertex edge workspace : List ℤ) → Left g bound index lent x vertex edge workspace →
+    (g : Graph) (bound : List ℤ) (index : List ℕ) (lent : Lent) (S : Outputs) (workspace : List ℤ) → Left g bound index lent S workspace →
     solve g bound index lent ≡ yields tt →
-    ((v : ℕ) → v < vertices g → EvenPrice (getD vertex v (pos 0))) × ((e : ℕ) → e < g .edges → EvenPrice (getD edge e (pos 0)))
+    ((v : ℕ) → v < vertices g → EvenPrice (getD (S .vertexPrices) v (pos 0))) × ((e : ℕ) → e < g .edges → EvenPrice (getD (S .edgePrices) e (pos 0)))
 
 -- "The gap sentence of the mission now compares with twice what the plan lacks": the gap is at least that, so that a gap of 0 or 1 shows a plan best, and
 -- against the solver's prices it is just that.
@@ -308,9 +308,9 @@ pub record TwiceWhatIsLacking : Type 0 where
       (y : List ℕ) → Optimal g bound y → (pos 2 *ℤ lacks g y x) ≤ℤ M .gap
   pub best : (g : Graph) (bound : List ℤ) (x : List ℕ) (P : Prices) (M : Measures) → measure g bound x P ≡ yields M →
       M .gap ≤ℤ pos 1 → Optimal g bound x
-  pub exact : (g : Graph) (bound : List ℤ) (index : List ℕ) (lent : Lent) (x : List ℕ) (vertex edge workspace : List ℤ) → Left g bound index lent x vertex edge workspace →
+  pub exact : (g : Graph) (bound : List ℤ) (index : List ℕ) (lent : Lent) (S : Outputs) (workspace : List ℤ) → Left g bound index lent S workspace →
       solve g bound index lent ≡ yields tt → (y : List ℕ) → Feasible g bound y →
-      (M : Measures) × (measure g bound y (withoutSets vertex edge) ≡ yields M) × (M .gap ≡ pos 2 *ℤ lacks g x y)
+      (M : Measures) × (measure g bound y (solverPrices S) ≡ yields M) × (M .gap ≡ pos 2 *ℤ lacks g (S .chosen) y)
 
 -- A stored price sheet, whose prices are in points, doubled.
 abbrev pub doubled : Prices → Prices
@@ -319,8 +319,7 @@ doubled P = record {
   edge = map halfPoints (P .edge);
   sets = P .sets;
   set = map halfPoints (P .set);
-  setVertices = P .setVertices;
-  setEdges = P .setEdges;
+  marks = P .marks;
 }
 
 -- "Owners double stored price texts; prices, totals, leftovers and gaps .. double too": a price of the old range, doubled, is in range; doubled prices cover

@@ -13,7 +13,7 @@ use borrow.Author.Tests.{le-leb, leb-true, not-true}
 use Rattle.graph.specs.declared.Kind.{Kind}
 use Rattle.graph.specs.declared.Kind.the-variants.{Bipartite, General}
 use Rattle.graph.specs.declared.Fault.the-variants.{TextLength, Header, LentLength, Sizes}
-use Rattle.graph.specs.Limits.{mostEdges, mostNumbers}
+use Rattle.graph.specs.Limits.{mostEdges}
 use Rattle.graph.specs.Refusal.{yields, Test, once, passing}
 use Rattle.graph.specs.Graph.{Graph, upTo}
 use Rattle.graph.specs.Tests.{graphLengths, graphTests}
@@ -27,7 +27,7 @@ use Rattle.layout.specs.declared.Numbers.{Numbers}
 use Rattle.layout.specs.Text.{bytes, blank, onFirst, pieces, nonEmpty, words, same, headerWords, header, commentLine, textFits}
 use Rattle.layout.specs.Lines.{Step, goes, stops, Layout, readText}
 use Rattle.layout.specs.GraphText.{fieldWord, graphHeader, edgeOn, graphSizes, graphEdge, graphLayout, readGraphBy}
-use Rattle.layout.specs.NumberText.{numberHeader, numberSizes, numberValue, numberReaderTests, readNumbersBy}
+use Rattle.layout.specs.NumberText.{numberHeader, numberSizes, numberValue, mostNumbersBy, numberReaderTestsBy, readNumbersBy}
 use Rattle.layout.specs.SubgraphText.{subgraphKind, subgraphHeader, subgraphSizes, subgraphEdge, subgraphLayout, readSubgraphBy}
 use Rattle.layout.specs.Rewrite.{lineAnew, textAnew}
 use Rattle.patterns.proofs.Prices.{rangedLayout, AlsoIn, numbers-alike, old-is-new}
@@ -206,12 +206,12 @@ module _ (field : Field) (r c w : ℕ) (text : List ℕ) (g : Graph) where
 
 module _ (what : Numbers) (count n : ℕ) (text : List ℕ) (zs : List ℤ) where
   abbrev numbersLent : List Test
-  numbersLent = once LentLength (eqb n count) ∷ once Sizes (upTo mostNumbers count) ∷ []
+  numbersLent = once LentLength (eqb n count) ∷ once Sizes (upTo (mostNumbersBy Old) count) ∷ []
 
   pub numbers-anew : readNumbersBy Old what count n text ≡ yields zs → readNumbersBy New what count n (textAnew text) ≡ yields zs
   unfolding readNumbersBy
   numbers-anew e =
-      numbers-alike New Old New what what count (numberReaderTests count n (textAnew text)) (textAnew text) zs (λ k l. old-is-new what (getD zs k (pos 0)))
+      numbers-alike New Old New what what count (numberReaderTestsBy Old count n (textAnew text)) (textAnew text) zs (λ k l. old-is-new what (getD zs k (pos 0)))
       (reader-anew (numbers-follow Old what count) numbersLent text zs e)
 
   -- Numbers in the old range.
@@ -220,7 +220,7 @@ module _ (what : Numbers) (count n : ℕ) (text : List ℕ) (zs : List ℤ) wher
   unfolding readNumbersBy
   numbers-same w e =
       reader-same (numbers-follow Old what count) numbersLent text zs
-      (numbers-alike New New Old what what count (numberReaderTests count n text) text zs w e)
+      (numbers-alike New New Old what what count (numberReaderTestsBy New count n text) text zs w e)
 
 module _ (g : Graph) (n : ℕ) (text : List ℕ) (x : List ℕ) where
   abbrev subgraphLent : List Test

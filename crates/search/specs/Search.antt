@@ -1,49 +1,46 @@
--- Where a search finds the list of a vertex, and how a path that was flipped is counted.
-use Prim.Native.Nat.{ℕ, _+_, _*_, _-_, _≤_, _<_}
+-- How far each vertex is from a way out, what a search finds and leaves, and how a path that was flipped is counted.
+use Prim.Native.Nat.{ℕ, _+_, _≤_, _<_}
 use mathlib.Core.Path.{_≡_}
+use mathlib.Core.Bool.{Bool, true, false, cond}
 use mathlib.Core.List.{List}
-use lib.IntN.{ℤ}
-use lib.ListN.{length}
+use lib.Dec.{eqb, ltb}
 use Rattle.integers.specs.Sum.{is}
-use Rattle.graph.specs.Limits.{mostVertices, mostEdges, greatestBound}
+use Rattle.graph.specs.Limits.{mostVertices, greatestBound}
 use Rattle.graph.specs.Graph.{Graph}
-use Rattle.tree.specs.Method.{limit}
-use Rattle.tree.specs.Tree.{entries}
+use Rattle.tree.specs.Method.{NoneMeets, Sought}
+use Rattle.tree.specs.Tree.{Ended}
+use Rattle.tree.specs.Front.{nearExit, farExit, rootExit}
 use Rattle.tree.specs.Lists.{Between}
-use Rattle.search.specs.declared.Span.{Span}
 
 -- What is kept between two searches, with some places of the chosen edges in the lists.
-pub record Known (g : Graph) (bound : List ℤ) (x : List ℕ) (price room list : ℕ → ℕ) : Type 0 where
+pub record Known (g : Graph) (least most : ℕ → ℕ) (x : List ℕ) (price used list : ℕ → ℕ) : Type 0 where
   pub place : ℕ → ℕ
-  pub between : Between g bound x price room list place
+  pub between : Between g least most x price used list place
 
--- The list of vertex u can be found: the offsets are those of an index, and no vertex has more room than its bound.
-pub record Findable (rows : ℕ) (index : List ℕ) (bound : List ℤ) (room : ℕ → ℕ) (u : ℕ) : Type 0 where
-  pub inside : u < mostVertices
-  pub bounded : u < length bound
-  pub offset-in : u < length index
-  pub rows-in : rows < length index
-  pub few : entries index u ≤ 2 * mostEdges
-  pub after : rows ≤ u → entries index rows ≤ entries index u
-  pub room-in : room u ≤ limit bound u
-  pub bound-in : limit bound u ≤ greatestBound
+-- How far each vertex is from a way out: the root, a near vertex and a far one.
+abbrev pub exitOf : ℕ → (ℕ → ℕ) → (ℕ → ℕ) → (ℕ → ℕ) → (ℕ → ℕ) → ℕ → ℕ → ℕ
+exitOf rows price used least most root v =
+    cond (eqb v root) (rootExit (price v) (used v) (least v)) (cond (ltb v rows) (nearExit (price v) (used v) (least v)) (farExit (price v) (used v) (most v)))
 
--- The list of vertex u: of a row vertex it is empty; that of a column vertex starts at its offset, counted from that of the first column vertex, and has
--- as many places as the vertex has chosen edges, which is what it has no room left for.
-pub record ListOf (rows : ℕ) (index : List ℕ) (bound : List ℤ) (room : ℕ → ℕ) (u : ℕ) (p : Span) : Type 0 where
-  pub of-row : u < rows → (p .start ≡ 0) × (p .stop ≡ 0)
-  pub of-column : rows ≤ u → (p .start ≡ entries index u - entries index rows) × (p .stop ≡ entries index u - entries index rows + (limit bound u - room u))
+-- A search finds the end of a path, or a number that is no vertex, where no subgraph meets both bounds.
+pub record Finds (g : Graph) (least most : ℕ → ℕ) (x : List ℕ) (start price label : ℕ → ℕ) (root v : ℕ) : Type 0 where
+  pub found : v < mostVertices → Ended g least most x start price label root v
+  pub none : mostVertices ≤ v → NoneMeets g least most
 
--- The rooms can be counted after a path from the root to vertex v: both are vertices, the root has room, and v too, where it is a column vertex.
-pub record Countable (rows root v : ℕ) (room : ℕ → ℕ) : Type 0 where
+-- What a search leaves: where it found a path, what a search is to leave, and all that is kept; where it found none, no subgraph meets both bounds.
+pub record Searched (g : Graph) (least most : ℕ → ℕ) (root : ℕ) (x : List ℕ) (start : ℕ → ℕ) (y : List ℕ) (price used list place : ℕ → ℕ) (r : Bool) : Type 0 where
+  pub found : r ≡ true → Sought g least most root x start y price × Between g least most y price used list place
+  pub none : r ≡ false → NoneMeets g least most
+
+-- The degrees can be counted after a path from the root to vertex v: both are vertices, and v has an edge, where it is a row vertex.
+pub record Countable (rows root v : ℕ) (used : ℕ → ℕ) : Type 0 where
   pub root-in : root < mostVertices
   pub end-in : v < mostVertices
-  pub root-row : root < rows
-  pub root-room : 0 < room root
-  pub end-few : v < rows → room v ≤ greatestBound
-  pub end-room : rows ≤ v → 0 < room v
+  pub root-few : used root ≤ greatestBound
+  pub end-few : used v ≤ greatestBound
+  pub some : v < rows → 0 < used v + is root v
 
--- The rooms after a path from the root to vertex v was flipped: as degrees grow, rooms fall.
-pub record PathCounted (rows root v : ℕ) (room room′ : ℕ → ℕ) : Type 0 where
-  pub from-row : v < rows → (h : ℕ) → room′ h + is root h ≡ room h + is v h
-  pub from-column : rows ≤ v → (h : ℕ) → room′ h + (is v h + is root h) ≡ room h
+-- The degrees after a path from the root to vertex v was flipped.
+pub record PathCounted (rows root v : ℕ) (used used′ : ℕ → ℕ) : Type 0 where
+  pub from-row : v < rows → (h : ℕ) → used′ h + is v h ≡ used h + is root h
+  pub from-column : rows ≤ v → (h : ℕ) → used′ h ≡ used h + (is v h + is root h)

@@ -7,8 +7,7 @@ use native.Mathlib.Omega.{arith}
 use native.Mathlib.Nat.{one-mul, zero-mul}
 use lib.Dec.{eqb}
 use Rattle.graph.specs.Graph.{Graph, vertices, some?, every}
-use Rattle.dual.specs.Prices.{Prices, bit, inside, marked, one}
-use Rattle.dual.specs.Sets.{nothingAbove, hasVertex, oneEndInside}
+use Rattle.dual.specs.Sets.{OddSets, bit, inside, marked, one, nothingAbove, hasVertex, oneEndInside}
 use Rattle.sets.specs.Words.{isInside, isMarked, insideBy, coversBy, keepsRulesBy}
 use Rattle.graph.proofs.Passing.{some-cong}
 
@@ -56,31 +55,31 @@ above-place : (ws : List ℕ) (n k m a b : ℕ) {r : Bool} → r ≡ some? (n - 
 above-place ws n k m a b h e p =
     ap not (h ∙ ap₂ (λ i c. some? (n - i) (λ j. bit ws (c + (i + j)))) e p) ∙ none-above (n - m) (λ j. bit ws (b + (m + j)))
 
-module _ (g : Graph) (P : Prices) (s : ℕ) {n : ℕ} {r : Bool} (count : n ≡ vertices g)
-    (found : r ≡ some? (128 - n) (λ j. bit (P .setVertices) (64 * (2 * s) + (n + j)))) where
-  vertices-above : not r ≡ every (128 - vertices g) (λ k. not (inside P s (vertices g + k)))
-  vertices-above = above-place (P .setVertices) 128 n (vertices g) (64 * (2 * s)) (128 * s) found count (omega arith)
+module _ (g : Graph) (O : OddSets) (s : ℕ) {n : ℕ} {r : Bool} (count : n ≡ vertices g)
+    (found : r ≡ some? (128 - n) (λ j. bit (O .vertices) (64 * (2 * s) + (n + j)))) where
+  vertices-above : not r ≡ every (128 - vertices g) (λ k. not (inside O s (vertices g + k)))
+  vertices-above = above-place (O .vertices) 128 n (vertices g) (64 * (2 * s)) (128 * s) found count (omega arith)
 
-  pub vertex-above : r ≡ true → false ≡ nothingAbove g P s
+  pub vertex-above : r ≡ true → false ≡ nothingAbove g O s
   vertex-above e =
-      sym (ap (λ b. b && every (1024 - g .edges) (λ k. not (marked P s (g .edges + k)))) (sym vertices-above ∙ ap not e))
+      sym (ap (λ b. b && every (1024 - g .edges) (λ k. not (marked O s (g .edges + k)))) (sym vertices-above ∙ ap not e))
 
-  pub edges-decide : {q : Bool} → r ≡ false → q ≡ some? (1024 - g .edges) (λ j. bit (P .setEdges) (64 * (16 * s) + (g .edges + j))) → not q ≡ nothingAbove g P s
+  pub edges-decide : {q : Bool} → r ≡ false → q ≡ some? (1024 - g .edges) (λ j. bit (O .edges) (64 * (16 * s) + (g .edges + j))) → not q ≡ nothingAbove g O s
   edges-decide e h =
-      above-place (P .setEdges) 1024 (g .edges) (g .edges) (64 * (16 * s)) (1024 * s) h refl (omega arith)
-      ∙ sym (ap (λ b. b && every (1024 - g .edges) (λ k. not (marked P s (g .edges + k)))) (sym vertices-above ∙ ap not e))
+      above-place (O .edges) 1024 (g .edges) (g .edges) (64 * (16 * s)) (1024 * s) h refl (omega arith)
+      ∙ sym (ap (λ b. b && every (1024 - g .edges) (λ k. not (marked O s (g .edges + k)))) (sym vertices-above ∙ ap not e))
 
 -- ---- the rules
 
 -- The rules, by the first that is broken.
-module _ (g : Graph) (P : Prices) (k load : ℕ) where
-  pub above-breaks : nothingAbove g P k ≡ false → false ≡ keepsRulesBy g P k load
-  above-breaks e = sym (ap (λ a. a && hasVertex g P k && oneEndInside g P k && eqb (load % 2) 1) e)
+module _ (g : Graph) (O : OddSets) (k load : ℕ) where
+  pub above-breaks : nothingAbove g O k ≡ false → false ≡ keepsRulesBy g O k load
+  above-breaks e = sym (ap (λ a. a && hasVertex g O k && oneEndInside g O k && eqb (load % 2) 1) e)
 
-  module _ (above : nothingAbove g P k ≡ true) where
-    pub vertex-breaks : hasVertex g P k ≡ false → false ≡ keepsRulesBy g P k load
-    vertex-breaks e = sym (ap₂ (λ a b. a && b && oneEndInside g P k && eqb (load % 2) 1) above e)
+  module _ (above : nothingAbove g O k ≡ true) where
+    pub vertex-breaks : hasVertex g O k ≡ false → false ≡ keepsRulesBy g O k load
+    vertex-breaks e = sym (ap₂ (λ a b. a && b && oneEndInside g O k && eqb (load % 2) 1) above e)
 
-    pub ends-decide : {r : Bool} → hasVertex g P k ≡ true → oneEndInside g P k ≡ r → r && eqb (load % 2) 1 ≡ keepsRulesBy g P k load
+    pub ends-decide : {r : Bool} → hasVertex g O k ≡ true → oneEndInside g O k ≡ r → r && eqb (load % 2) 1 ≡ keepsRulesBy g O k load
     ends-decide vertex e =
-        sym (ap₂ (λ a b. a && b && oneEndInside g P k && eqb (load % 2) 1) above vertex ∙ ap (λ c. c && eqb (load % 2) 1) e)
+        sym (ap₂ (λ a b. a && b && oneEndInside g O k && eqb (load % 2) 1) above vertex ∙ ap (λ c. c && eqb (load % 2) 1) e)

@@ -5,8 +5,7 @@ use mathlib.Core.List.{List}
 use lib.Dec.{eqb}
 use Rattle.graph.specs.Limits.{mostVertices, mostEdges}
 use Rattle.graph.specs.Graph.{Graph}
-use Rattle.dual.specs.Prices.{Prices, bit, one}
-use Rattle.dual.specs.Sets.{nothingAbove, hasVertex, oneEndInside}
+use Rattle.dual.specs.Sets.{OddSets, bit, one, nothingAbove, hasVertex, oneEndInside}
 
 -- By the words `insides` of all odd sets, vertex v is inside odd set k; by the words `markings`, it marks edge e.
 abbrev pub isInside : List ℕ → ℕ → ℕ → Bool
@@ -24,5 +23,5 @@ abbrev pub coversBy : List ℕ → List ℕ → ℕ → ℕ → ℕ → ℕ → 
 coversBy insides markings k e first second = isMarked markings k e || isInside insides k first && isInside insides k second
 
 -- Odd set k, whose load is this, keeps the rules, as `keepsRules` says.
-abbrev pub keepsRulesBy : Graph → Prices → ℕ → ℕ → Bool
-keepsRulesBy g P k load = nothingAbove g P k && hasVertex g P k && oneEndInside g P k && eqb (load % 2) 1
+abbrev pub keepsRulesBy : Graph → OddSets → ℕ → ℕ → Bool
+keepsRulesBy g O k load = nothingAbove g O k && hasVertex g O k && oneEndInside g O k && eqb (load % 2) 1

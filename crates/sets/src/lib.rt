@@ -1,6 +1,6 @@
 // The rules of odd sets (groups), their load and capacity, and which edges they cover.
 // The words `insides`, 2 a set, mark vertices, and `markings`, 16 a set, mark edges. Odd sets count by k.
-// A contract leaves out of the graph and the price sheet, as [] or 0, what its definition does not look at.
+// A contract leaves out of the graph and of the odd sets, as [], what its definition does not look at.
 use checks::Ends;
 use checks::Lowest;
 use graph::EDGE_WORDS;
@@ -21,8 +21,7 @@ ghost use Rattle.graph.specs.Limits.{mostVertices, mostEdges, greatestBound, mo
 ghost use Rattle.graph.specs.Graph.{graphOf, verticesIn, boundAt};
 ghost use Rattle.graph.specs.Refusal.{lowest};
 ghost use Rattle.graph.specs.Passed.{Sound, Bounded, MarksHold};
-ghost use Rattle.dual.specs.Prices.{one, pricesOf};
-ghost use Rattle.dual.specs.Sets.{nothingAbove, hasVertex, oneEndInside, load};
+ghost use Rattle.dual.specs.Sets.{oddSetsOf, one, nothingAbove, hasVertex, oneEndInside, load};
 ghost use Rattle.dual.specs.Gap.{chosenCovered};
 ghost use Rattle.checks.specs.Checks.{lowestSays};
 ghost use Rattle.sets.specs.Words.{isInside, isMarked, insideBy, coversBy, keepsRulesBy};
@@ -87,7 +86,7 @@ fn edge_keeps(e: usize, ends: Ends, insides: &[u64], markings: &[u64], k: usize)
 // Whether no bit above n or m is set.
 fn nothing_above(s: Shape, insides: &[u64], markings: &[u64], k: usize) -> bool
     requires { ⌜ (vertexWords * k + vertexWords ≤ length (now insides)) × (edgeWords * k + edgeWords ≤ length (now markings)) ⌝ }
-    ensures { λ r. ⌜ r ≡ nothingAbove (graphOf s [] [] []) (pricesOf [] [] 0 [] (now (insides .entry)) (now (markings .entry))) k ⌝ }
+    ensures { λ r. ⌜ r ≡ nothingAbove (graphOf s [] [] []) (oddSetsOf (now (insides .entry)) (now (markings .entry))) k ⌝ }
 {
     let n = checks::vertex_count(s);
     if bits::any_from(insides, VERTEX_WORDS * k, VERTEX_WORDS, n) {
@@ -99,7 +98,7 @@ fn nothing_above(s: Shape, insides: &[u64], markings: &[u64], k: usize) -> bool
 // Whether a vertex is inside.
 fn has_vertex(s: Shape, insides: &[u64], k: usize) -> bool
     requires { ⌜ (verticesIn s ≤ mostVertices) × (vertexWords * k + vertexWords ≤ length (now insides)) ⌝ }
-    ensures { λ r. ⌜ r ≡ hasVertex (graphOf s [] [] []) (pricesOf [] [] 0 [] (now (insides .entry)) []) k ⌝ }
+    ensures { λ r. ⌜ r ≡ hasVertex (graphOf s [] [] []) (oddSetsOf (now (insides .entry)) []) k ⌝ }
 {
     let n = checks::vertex_count(s) as usize;
     let mut v = 0;
@@ -123,7 +122,7 @@ fn one_end_inside(
 ) -> bool
     requires { ⌜ Sound s (now row) (now column) ⌝ }
     requires { ⌜ (vertexWords * k + vertexWords ≤ length (now insides)) × (edgeWords * k + edgeWords ≤ length (now markings)) ⌝ }
-    ensures { λ r. ⌜ r ≡ oneEndInside (graphOf s (now (row .entry)) (now (column .entry)) []) (pricesOf [] [] 0 [] (now (insides .entry)) (now (markings .entry))) k ⌝ }
+    ensures { λ r. ⌜ r ≡ oneEndInside (graphOf s (now (row .entry)) (now (column .entry)) []) (oddSetsOf (now (insides .entry)) (now (markings .entry))) k ⌝ }
 {
     let mut e = 0;
     while e < row.len() {
@@ -175,7 +174,7 @@ fn bounds_inside(s: Shape, bound: &[i32], insides: &[u64], k: usize) -> u32
 fn load_of(s: Shape, bound: &[i32], insides: &[u64], markings: &[u64], k: usize) -> u32
     requires { ⌜ Bounded (verticesIn s) (now bound) × (verticesIn s ≤ mostVertices) × (s .edges ≤ mostEdges) ⌝ }
     requires { ⌜ (vertexWords * k + vertexWords ≤ length (now insides)) × (edgeWords * k + edgeWords ≤ length (now markings)) ⌝ }
-    ensures { λ r. ⌜ (r ≡ load (graphOf s [] [] []) (now (bound .entry)) (pricesOf [] [] 0 [] (now (insides .entry)) (now (markings .entry))) k) × (r ≤ greatestBound * mostVertices + mostEdges) ⌝ }
+    ensures { λ r. ⌜ (r ≡ load (graphOf s [] [] []) (now (bound .entry)) (oddSetsOf (now (insides .entry)) (now (markings .entry))) k) × (r ≤ greatestBound * mostVertices + mostEdges) ⌝ }
 {
     bounds_inside(s, bound, insides, k)
         + bits::ones(markings, EDGE_WORDS * k, EDGE_WORDS, s.edges as u64)
@@ -199,7 +198,7 @@ pub fn load_table(
 ) -> [u32; MOST_SETS]
     requires { ⌜ Bounded (verticesIn s) (now bound) × (verticesIn s ≤ mostVertices) × (s .edges ≤ mostEdges) ⌝ }
     requires { ⌜ (length (now insides) ≡ vertexWords * sets) × (length (now markings) ≡ edgeWords * sets) ⌝ }
-    ensures { λ r. ⌜ ((k : ℕ) → k < min sets mostSets → (getD r k 0 ≡ load (graphOf s [] [] []) (now (bound .entry)) (pricesOf [] [] 0 [] (now (insides .entry)) (now (markings .entry))) k) × (getD r k 0 ≤ greatestBound * mostVertices + mostEdges)) ⌝ }
+    ensures { λ r. ⌜ ((k : ℕ) → k < min sets mostSets → (getD r k 0 ≡ load (graphOf s [] [] []) (now (bound .entry)) (oddSetsOf (now (insides .entry)) (now (markings .entry))) k) × (getD r k 0 ≤ greatestBound * mostVertices + mostEdges)) ⌝ }
 {
     let mut table = [0u32; MOST_SETS];
     let count = up_to(sets, MOST_SETS);
@@ -223,7 +222,7 @@ fn keeps_rules(
 ) -> bool
     requires { ⌜ Sound s (now row) (now column) ⌝ }
     requires { ⌜ (vertexWords * k + vertexWords ≤ length (now insides)) × (edgeWords * k + edgeWords ≤ length (now markings)) ⌝ }
-    ensures { λ r. ⌜ r ≡ keepsRulesBy (graphOf s (now (row .entry)) (now (column .entry)) []) (pricesOf [] [] 0 [] (now (insides .entry)) (now (markings .entry))) k load ⌝ }
+    ensures { λ r. ⌜ r ≡ keepsRulesBy (graphOf s (now (row .entry)) (now (column .entry)) []) (oddSetsOf (now (insides .entry)) (now (markings .entry))) k load ⌝ }
 {
     if !nothing_above(s, insides, markings, k) {
         return false;
@@ -247,7 +246,7 @@ fn is_allowed(
 ) -> bool
     requires { ⌜ Sound s (now row) (now column) ⌝ }
     requires { ⌜ (vertexWords * k + vertexWords ≤ length (now insides)) × (edgeWords * k + edgeWords ≤ length (now markings)) ⌝ }
-    ensures { λ r. ⌜ r ≡ (ltb k mostSets && keepsRulesBy (graphOf s (now (row .entry)) (now (column .entry)) []) (pricesOf [] [] 0 [] (now (insides .entry)) (now (markings .entry))) k (getD load k 0)) ⌝ }
+    ensures { λ r. ⌜ r ≡ (ltb k mostSets && keepsRulesBy (graphOf s (now (row .entry)) (now (column .entry)) []) (oddSetsOf (now (insides .entry)) (now (markings .entry))) k (getD load k 0)) ⌝ }
 {
     if k < MOST_SETS {
         keeps_rules(s, row, column, load[k], insides, markings, k)
@@ -268,7 +267,7 @@ pub fn lowest_set(
 ) -> Lowest
     requires { ⌜ Sound s (now row) (now column) ⌝ }
     requires { ⌜ (length (now insides) ≡ vertexWords * sets) × (length (now markings) ≡ edgeWords * sets) ⌝ }
-    ensures { λ r. ⌜ lowestSays r ≡ lowest (min sets (mostSets + 1)) (λ k. ltb k mostSets && keepsRulesBy (graphOf s (now (row .entry)) (now (column .entry)) []) (pricesOf [] [] 0 [] (now (insides .entry)) (now (markings .entry))) k (getD load k 0)) ⌝ }
+    ensures { λ r. ⌜ lowestSays r ≡ lowest (min sets (mostSets + 1)) (λ k. ltb k mostSets && keepsRulesBy (graphOf s (now (row .entry)) (now (column .entry)) []) (oddSetsOf (now (insides .entry)) (now (markings .entry))) k (getD load k 0)) ⌝ }
 {
     let count = up_to(sets, MOST_SETS + 1);
     let mut k = 0;
@@ -306,7 +305,7 @@ fn covered_by(
 ) -> u32
     requires { ⌜ Sound s (now row) (now column) × MarksHold (s .edges) (now chosen) ⌝ }
     requires { ⌜ (vertexWords * k + vertexWords ≤ length (now insides)) × (edgeWords * k + edgeWords ≤ length (now markings)) ⌝ }
-    ensures { λ r. ⌜ (r ≡ chosenCovered (graphOf s (now (row .entry)) (now (column .entry)) []) (now (chosen .entry)) (pricesOf [] [] 0 [] (now (insides .entry)) (now (markings .entry))) k) × (r ≤ mostEdges) ⌝ }
+    ensures { λ r. ⌜ (r ≡ chosenCovered (graphOf s (now (row .entry)) (now (column .entry)) []) (now (chosen .entry)) (oddSetsOf (now (insides .entry)) (now (markings .entry))) k) × (r ≤ mostEdges) ⌝ }
 {
     let mut total = 0;
     let mut e = 0;
@@ -330,7 +329,7 @@ pub fn covered_table(
 ) -> [u32; MOST_SETS]
     requires { ⌜ Sound s (now row) (now column) × MarksHold (s .edges) (now chosen) ⌝ }
     requires { ⌜ (sets ≤ mostSets) × (length (now insides) ≡ vertexWords * sets) × (length (now markings) ≡ edgeWords * sets) ⌝ }
-    ensures { λ r. ⌜ ((k : ℕ) → k < sets → (getD r k 0 ≡ chosenCovered (graphOf s (now (row .entry)) (now (column .entry)) []) (now (chosen .entry)) (pricesOf [] [] 0 [] (now (insides .entry)) (now (markings .entry))) k) × (getD r k 0 ≤ mostEdges)) ⌝ }
+    ensures { λ r. ⌜ ((k : ℕ) → k < sets → (getD r k 0 ≡ chosenCovered (graphOf s (now (row .entry)) (now (column .entry)) []) (now (chosen .entry)) (oddSetsOf (now (insides .entry)) (now (markings .entry))) k) × (getD r k 0 ≤ mostEdges)) ⌝ }
 {
     let mut table = [0u32; MOST_SETS];
     let count = sets as usize;

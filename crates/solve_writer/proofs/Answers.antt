@@ -24,7 +24,7 @@ use Rattle.graph.proofs.Index.{index-fills}
 use Rattle.layout.specs.SubgraphText.{subgraphText}
 use Rattle.dual.specs.declared.SolveAnswer.{SolveAnswer}
 use Rattle.dual.specs.declared.SolveAnswer.the-variants as SolveAnswer
-use Rattle.dual.specs.Solve.{Lent, solve, solveSays, lentOf, Left}
+use Rattle.dual.specs.Solve.{Lent, Outputs, solve, solveSays, lentOf, Left}
 use Rattle.duality.proofs.Passed.{solve-passed}
 use Rattle.writer.specs.Written.{Written}
 use Rattle.report.specs.declared.Source.{Source}
@@ -87,7 +87,10 @@ module _ (g : Graph) (bound : List ℤ) (index : List ℕ) {L : Lent} (lent : L 
   }
 
   -- It has chosen x.
-  module _ (is : a ≡ SolveAnswer.Solved) {x : List ℕ} {vertex edge workspace : List ℤ} (left : Left g bound index L x vertex edge workspace) where
+  module _ (is : a ≡ SolveAnswer.Solved) {S : Outputs} {workspace : List ℤ} (left : Left g bound index L S workspace) where
+    abbrev x : List ℕ
+    x = S .chosen
+
     accepts : solve g bound index L ≡ yields tt
     accepts = told-same (solve g bound index L) (yields tt) (sym says ∙ ap solveSays is)
 

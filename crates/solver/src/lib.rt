@@ -10,7 +10,7 @@ ghost use Rattle.graph.specs.Graph.{graphOf};
 ghost use Rattle.checks.specs.Checks.{checkSays};
 ghost use Rattle.dual.specs.Solve as dual-solve;
 ghost use Rattle.graph.specs.Refusal.{told};
-ghost use Rattle.dual.specs.Solve.{lentOf, solveSays, Left};
+ghost use Rattle.dual.specs.Solve.{lentOf, outputsOf, solveSays, Left};
 ghost use Rattle.solver.specs.Solver.{otherLengths};
 
 // The lengths of what is lent for marks, vertex prices, edge prices and the workspace.
@@ -69,7 +69,7 @@ pub fn solve(
     workspace: &mut [i32],
 ) -> SolveAnswer
     ensures { λ r. ⌜ solveSays r ≡ told (dual-solve.solve (graphOf s (now (row .entry)) (now (column .entry)) (now (weight .entry))) (now (bound .entry)) (now (index .entry)) (lentOf (length (now (chosen .entry))) (length (now («vertex_price» .entry))) (length (now («edge_price» .entry))) (length (now (workspace .entry))))) ⌝ }
-    ensures { λ _. ⌜ Left (graphOf s (now (row .entry)) (now (column .entry)) (now (weight .entry))) (now (bound .entry)) (now (index .entry)) (lentOf (length (now (chosen .entry))) (length (now («vertex_price» .entry))) (length (now («edge_price» .entry))) (length (now (workspace .entry)))) (now (chosen .exit)) (now («vertex_price» .exit)) (now («edge_price» .exit)) (now (workspace .exit)) ⌝ }
+    ensures { λ _. ⌜ Left (graphOf s (now (row .entry)) (now (column .entry)) (now (weight .entry))) (now (bound .entry)) (now (index .entry)) (lentOf (length (now (chosen .entry))) (length (now («vertex_price» .entry))) (length (now («edge_price» .entry))) (length (now (workspace .entry)))) (outputsOf (now (chosen .exit)) (now («vertex_price» .exit)) (now («edge_price» .exit))) (now (workspace .exit)) ⌝ }
 {
     let outputs = Lengths {
         chosen: chosen.len(),

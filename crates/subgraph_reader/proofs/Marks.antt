@@ -8,8 +8,10 @@ use lib.ListN.{length, set, length-set}
 use borrow.Author.Tests.{ltb-true}
 use Rattle.graph.specs.declared.Fault.{Fault}
 use Rattle.graph.specs.declared.Refusal.{Refusal}
+use Rattle.graph.specs.declared.Shape.{Shape}
 use Rattle.graph.specs.Refusal.{Outcome, yields, refuses, told, reported}
 use Rattle.graph.specs.Graph.{Graph}
+use Rattle.graph.specs.Passed.{Sound}
 use Rattle.layout.specs.declared.Rules.the-variants.{New}
 use Rattle.layout.specs.declared.SubgraphAnswer.{SubgraphAnswer}
 use Rattle.layout.specs.declared.SubgraphAnswer.the-variants as SubgraphAnswer
@@ -22,10 +24,15 @@ use Rattle.lines.specs.declared.Later.the-variants as Later
 use Rattle.lines.specs.Found.{part}
 use Rattle.lines.specs.Walk.{LaterAs, laterMet, Walk}
 use Rattle.lines.proofs.Walk.{later-found, later-refused, later-yields, later-goes, later-stops}
+use Rattle.cells.specs.Cells.{CellsHold}
 use Rattle.lent.proofs.Filling.{filled-all, holds-refused, holds-yields}
-use Rattle.subgraph_reader.specs.OnLine.{soFar, withMark, choiceSays, ChoiceInside, SubgraphReading}
+use Rattle.subgraph_reader.specs.OnLine.{soFar, withMark, choiceSays, ChoiceInside, Celled, SubgraphReading}
 use Rattle.subgraph_reader.specs.declared.Choice.{Choice}
 use Rattle.subgraph_reader.specs.declared.Choice.the-variants as Choice
+
+-- The cells of a graph's edges.
+abbrev pub celled : {s : Shape} {row column cells : List ℕ} → Sound s row column → CellsHold row column cells (length row) → Celled s cells
+celled {s} {row} {column} S H = record { row = row; column = column; sound = S; holds = H }
 
 -- A refusal reports itself, whatever the output holds.
 pub read-refused : (g : Graph) {s out : List ℕ} (x : Refusal) → refuses (x .fault) (x .place) ≡ readText (subgraphLayout New g) s →

@@ -11,12 +11,13 @@ use borrow.Author.Tests.{not-true, not-false}
 use Rattle.graph.specs.declared.Kind.{Kind}
 use Rattle.graph.specs.declared.Shape.{Shape}
 use Rattle.graph.specs.declared.Fault.the-variants.{Header, SizeLine, Sizes, LaterLine, Ends, SameEnds, Disagreement}
-use Rattle.graph.specs.Refusal.{lowest}
 use Rattle.graph.specs.Graph.{Graph, graphOf, sizesInRange, endsInRange, joins}
 use Rattle.graph.proofs.Passing.{lowest-some}
 use Rattle.checks.specs.declared.Lowest.{Lowest}
 use Rattle.checks.specs.declared.Lowest.the-variants as Lowest
-use Rattle.checks.specs.Checks.{lowestSays}
+use Rattle.checks.specs.Checks.{lowestSays, Flagged, flagAt}
+use Rattle.checks.proofs.Ranges.{ends-flagged}
+use Rattle.cells.specs.Cells.{cellSays, edgeAmong}
 use Rattle.layout.specs.declared.Rules.the-variants.{New}
 use Rattle.layout.specs.Lines.{Step, goes, stops}
 use Rattle.layout.specs.SubgraphText.{Marked, subgraphKind, sameKind, subgraphHeader, subgraphSizes, edgeWith, subgraphMark, subgraphEdge, subgraphLayout}
@@ -29,7 +30,7 @@ use Rattle.text.specs.declared.Triple.the-variants as Triple
 use Rattle.text.specs.Cursor.{pairSays, tripleSays, kindSays}
 use Rattle.text.specs.declared.HeaderKind.{HeaderKind}
 use Rattle.text.specs.declared.HeaderKind.the-variants as HeaderKind
-use Rattle.subgraph_reader.specs.OnLine.{soFar, chosenSays, withMark}
+use Rattle.subgraph_reader.specs.OnLine.{soFar, chosenSays, withMark, Celled}
 use Rattle.subgraph_reader.specs.declared.ChosenLine.{ChosenLine}
 
 -- The header line.
@@ -99,35 +100,43 @@ layout-same s row column weight = λ i. record {
   result = λ b. b .marks;
 }
 
--- A later line.
-module _ (g : Graph) (b : Marked) {o : Option (ℕ × ℕ)} {r : Pair} (says : pairSays r ≡ o) where
-  pub edge-bad : r ≡ Pair.Bad → stops LaterLine ≡ subgraphEdge g b o
-  edge-bad is = ap (subgraphEdge g b) (sym (ap pairSays is) ∙ says)
+-- Ends in range have a cell.
+pub cell-flagged : {s : Shape} {cells : List ℕ} → Celled s cells → {x y : ℕ} → endsInRange (s .kind) (s .rows) (s .columns) x y ≡ true → Flagged x × Flagged y
+cell-flagged {s} T {x} {y} e = ends-flagged (s .kind) (s .rows) (s .columns) (s .edges) x y (T .sound .sizes .test) e
+
+abbrev pub graphIn : {s : Shape} {cells : List ℕ} → Celled s cells → Graph
+graphIn {s} T = graphOf s (T .row) (T .column) []
+
+-- A later line, where the table has the cells of the edges of a graph.
+module _ {s : Shape} {cells : List ℕ} (T : Celled s cells) (b : Marked) {o : Option (ℕ × ℕ)} {r : Pair} (says : pairSays r ≡ o) where
+  pub edge-bad : r ≡ Pair.Bad → stops LaterLine ≡ subgraphEdge (graphIn T) b o
+  edge-bad is = ap (subgraphEdge (graphIn T) b) (sym (ap pairSays is) ∙ says)
 
   module _ {x y : ℕ} (is : r ≡ Pair.Is x y) where
-    edge-does : (t : Bool) → endsInRange (g .kind) (g .rows) (g .columns) x y ≡ t → cond t (subgraphMark b (edgeWith g x y)) (stops Ends) ≡ subgraphEdge g b o
+    edge-does : (t : Bool) → endsInRange (s .kind) (s .rows) (s .columns) x y ≡ t → cond t (subgraphMark b (edgeWith (graphIn T) x y)) (stops Ends) ≡ subgraphEdge (graphIn T) b o
     edge-does t e =
-        ap (λ (u : Bool). cond {A = Step Marked} u (subgraphMark b (edgeWith g x y)) (stops Ends)) (sym e)
-        ∙ ap (subgraphEdge g b) (sym (ap pairSays is) ∙ says)
+        ap (λ (u : Bool). cond {A = Step Marked} u (subgraphMark b (edgeWith (graphIn T) x y)) (stops Ends)) (sym e)
+        ∙ ap (subgraphEdge (graphIn T) b) (sym (ap pairSays is) ∙ says)
 
-    pub ends-wrong : endsInRange (g .kind) (g .rows) (g .columns) x y ≡ false → stops Ends ≡ subgraphEdge g b o
+    pub ends-wrong : endsInRange (s .kind) (s .rows) (s .columns) x y ≡ false → stops Ends ≡ subgraphEdge (graphIn T) b o
     ends-wrong e = edge-does false e
 
-    -- The search for the edge, over as many rows as the graph has edges, has answered l.
-    module _ (e : endsInRange (g .kind) (g .rows) (g .columns) x y ≡ true) {l : Lowest} {m : ℕ} (all : m ≡ g .edges)
-        (sought : lowestSays l ≡ lowest m (λ d. not (joins g x y d))) where
-      found : (o : Lowest) → l ≡ o → lowestSays o ≡ edgeWith g x y
-      found o at = ap lowestSays (sym at) ∙ sought ∙ ap (λ k. lowest k (λ d. not (joins g x y d))) all
+    -- The edge that was found is l.
+    module _ (e : endsInRange (s .kind) (s .rows) (s .columns) x y ≡ true) {l : Lowest} (sought : lowestSays l ≡ cellSays (getD cells (flagAt x y) 0)) where
+      found : (o : Lowest) → l ≡ o → lowestSays o ≡ edgeWith (graphIn T) x y
+      found o at =
+          let f = cell-flagged T e in
+          ap lowestSays (sym at) ∙ sought ∙ T .holds .each x y (f .0) (f .1) ∙ ap (λ (n : ℕ). edgeAmong (T .row) (T .column) n x y) (T .sound .rowLong)
 
-      pub edge-absent : l ≡ Lowest.Nothing → stops Disagreement ≡ subgraphEdge g b o
+      pub edge-absent : l ≡ Lowest.Nothing → stops Disagreement ≡ subgraphEdge (graphIn T) b o
       edge-absent at = ap (subgraphMark b) (found Lowest.Nothing at) ∙ edge-does true e
 
       pub edge-marks : {k : ℕ} (u : Bool) → l ≡ Lowest.At k → eqb (getD (b .marks) k 0) 0 ≡ u →
-          cond u (goes (withMark b k)) (stops SameEnds) ≡ subgraphEdge g b o
+          cond u (goes (withMark b k)) (stops SameEnds) ≡ subgraphEdge (graphIn T) b o
       edge-marks {k} u at f =
           ap (λ (t : Bool). cond {A = Step Marked} t (goes (withMark b k)) (stops SameEnds)) (sym f)
           ∙ ap (subgraphMark b) (found (Lowest.At k) at) ∙ edge-does true e
 
-      -- An edge that the search finds is one of the graph's.
-      pub edge-among : {k : ℕ} → l ≡ Lowest.At k → k < g .edges
-      edge-among {k} at = lowest-some (g .edges) (λ d. not (joins g x y d)) k (sym (found (Lowest.At k) at)) .among
+      -- It is one of the graph's.
+      pub edge-among : {k : ℕ} → l ≡ Lowest.At k → k < s .edges
+      edge-among {k} at = lowest-some (s .edges) (λ d. not (joins (graphIn T) x y d)) k (sym (found (Lowest.At k) at)) .among

@@ -5,7 +5,7 @@ use mathlib.Core.Bool.{true, _&&_}
 use mathlib.Core.List.{List, [], _∷_}
 use lib.Dec.{eqb}
 use lib.IntN.{ℤ}
-use lib.ListN.{length, replicate}
+use lib.ListN.{replicate}
 use borrow.Author.Tests.{eqb-true}
 use Rattle.graph.specs.declared.Fault.the-variants.{TextLength, LentLength}
 use Rattle.graph.specs.declared.Refusal.{Refusal}
@@ -82,8 +82,8 @@ module _ (g : Graph) (n : ℕ) (s : List ℕ) where
       lent : Passed g × (eqb n (g .edges) ≡ true)
       lent = lent-passed g (eqb n (g .edges)) (passing fromText noted) tt (sym (passing-append numbers fromText noted) ∙ sym answers ∙ ap checkSays is)
 
-      pub lengths : (length (g .row) ≡ g .edges) × (length (g .column) ≡ g .edges)
-      lengths = (lent .0 .sound .rowLong, lent .0 .sound .columnLong)
+      pub passed : Passed g
+      passed = lent .0
 
       pub size : n ≡ g .edges
       size = eqb-true n (g .edges) (lent .1)

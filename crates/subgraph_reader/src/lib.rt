@@ -1,6 +1,7 @@
 // Reads the text of a subgraph (plan) of a graph.
 use checks::Check;
 use checks::Lowest;
+use checks::TABLE_FLAGS;
 use checks::both;
 use graph::Fault;
 use graph::Kind;
@@ -13,23 +14,24 @@ use text::Cursor;
 use text::HeaderKind;
 use text::Pair;
 use text::Triple;
-ghost use Prim.Native.Nat.{ℕ};
+ghost use Prim.Native.Nat.{ℕ, _≤_};
 ghost use mathlib.Core.Path.{_≡_};
-ghost use mathlib.Core.Bool.{not, _&&_};
 ghost use mathlib.Core.List.{[]};
-ghost use lib.Dec.{eqb};
-ghost use lib.ListN.{length, getD, replicate};
-ghost use Rattle.graph.specs.Refusal.{yields, told, lowest, passing, reported, output};
+ghost use lib.ListN.{length, replicate};
+ghost use Rattle.graph.specs.Refusal.{yields, told, passing, reported, output};
 ghost use Rattle.graph.specs.Graph.{graphOf};
-ghost use Rattle.checks.specs.Checks.{lowestSays, checkSays};
+ghost use Rattle.graph.specs.Passed.{Sound};
+ghost use Rattle.checks.specs.Checks.{checkSays};
+ghost use Rattle.cells.specs.Cells.{Distinct};
 ghost use Rattle.layout.specs.declared.Rules.the-variants.{New};
 ghost use Rattle.layout.specs.Text.{words, natural, twoWords, threeWords};
 ghost use Rattle.layout.specs.Lines.{reading};
 ghost use Rattle.layout.specs.GraphText.{noEdges};
 ghost use Rattle.layout.specs.SubgraphText.{sameKind, subgraphSizes, subgraphEdge, subgraphLayout, readSubgraph, subgraphReaderTests};
 ghost use Rattle.layout.specs.Answers.{subgraphSays};
+ghost use Rattle.lines.specs.Found.{part};
 ghost use Rattle.lines.specs.Walk.{Walk};
-ghost use Rattle.subgraph_reader.specs.OnLine.{soFar, chosenSays, choiceSays, ChoiceInside, SubgraphReading};
+ghost use Rattle.subgraph_reader.specs.OnLine.{soFar, chosenSays, choiceSays, ChoiceInside, Celled, SubgraphReading};
 
 // The tests before the text is read. `n` is the length of the output.
 fn check_inputs(
@@ -94,37 +96,24 @@ fn size_on(line: &[u8], s: Shape) -> ChosenLine
     }
 }
 
-// The edge with row r and column c, if there is one.
-fn find_edge(row: &[u32], column: &[u32], r: u32, c: u32) -> Lowest
-    requires { ⌜ length (now column) ≡ length (now row) ⌝ }
-    ensures { λ e. ⌜ lowestSays e ≡ lowest (length (now (row .entry))) (λ k. not (eqb (getD (now (row .entry)) k 0) r && eqb (getD (now (column .entry)) k 0) c)) ⌝ }
-{
-    let mut e = 0;
-    while e < row.len() {
-        if both(row[e] == r, column[e] == c) {
-            return Lowest::At(e);
-        }
-        e += 1;
-    }
-    Lowest::Nothing
-}
-
-// What a later line is: a chosen edge that has no mark yet, or refused.
+// What a later line, from `start` to `end`, is: a chosen edge that has no mark yet, or refused.
 enum Choice {
     Is(usize),
     Refused(Fault),
 }
 
-fn edge_on(line: &[u8], s: Shape, row: &[u32], column: &[u32], chosen: &[u8]) -> Choice
-    requires { ⌜ (length (now row) ≡ s .edges) × (length (now column) ≡ s .edges) × (length (now chosen) ≡ s .edges) ⌝ }
-    ensures says { λ r. ⌜ ((count came : ℕ) → choiceSays (soFar count came (now (chosen .entry))) r ≡ subgraphEdge (graphOf s (now (row .entry)) (now (column .entry)) []) (soFar count came (now (chosen .entry))) (twoWords (natural New) (natural New) (words (now (line .entry))))) ⌝ }
+fn edge_on(text: &[u8], start: usize, end: usize, s: Shape, cells: &[u16], chosen: &[u8]) -> Choice
+    requires { ⌜ (start ≤ end) × (end ≤ length (now text)) ⌝ }
+    requires { ⌜ Celled s (now cells) ⌝ }
+    requires { ⌜ length (now chosen) ≡ s .edges ⌝ }
+    ensures says { λ r. ⌜ ((t : Celled s (now (cells .entry))) (count came : ℕ) → choiceSays (soFar count came (now (chosen .entry))) r ≡ subgraphEdge (graphOf s (t .row) (t .column) []) (soFar count came (now (chosen .entry))) (twoWords (natural New) (natural New) (words (part (now (text .entry)) start end)))) ⌝ }
     ensures inside { λ r. ⌜ ChoiceInside (s .edges) r ⌝ }
 {
-    let Pair::Is(r, c) = text::two_naturals(line, Rules::New) else {
+    let Pair::Is(r, c) = text::two_naturals_in(text, start, end, Rules::New) else {
         return Choice::Refused(Fault::LaterLine);
     };
     if checks::ends_in_range(s, r, c) {
-        let Lowest::At(e) = find_edge(row, column, r, c) else {
+        let Lowest::At(e) = cells::find_edge(cells, r, c) else {
             return Choice::Refused(Fault::Disagreement);
         };
         if chosen[e] == 0 {
@@ -137,7 +126,7 @@ fn edge_on(line: &[u8], s: Shape, row: &[u32], column: &[u32], chosen: &[u8]) ->
     }
 }
 
-// The lines after the size line, of which `count` name an edge, into `chosen`.
+// The lines after the size line, of which `count` name an edge, into `chosen`. Each edge is looked up in a table of cells.
 fn read_edges(
     text: &[u8],
     start: Cursor,
@@ -148,9 +137,11 @@ fn read_edges(
     chosen: &mut [u8],
 ) -> SubgraphAnswer
     requires { ⌜ Walk (subgraphLayout New (graphOf s (now row) (now column) [])) (now text) start (reading (soFar count 0 (now chosen))) ⌝ }
-    requires { ⌜ (length (now row) ≡ s .edges) × (length (now column) ≡ s .edges) × (length (now chosen) ≡ s .edges) ⌝ }
+    requires { ⌜ Sound s (now row) (now column) × Distinct (now row) (now column) × (length (now chosen) ≡ s .edges) ⌝ }
     ensures { λ r. ⌜ SubgraphReading (graphOf s (now (row .entry)) (now (column .entry)) []) (now (text .entry)) r (now (chosen .exit)) ⌝ }
 {
+    let mut cells = [0u16; TABLE_FLAGS];
+    cells::fill_cells(row, column, &mut cells);
     let mut c = start;
     let mut came: u32 = 0;
     loop {
@@ -162,7 +153,7 @@ fn read_edges(
                 return SubgraphAnswer::Refused(r);
             }
             Later::At { start, end, next } => {
-                match edge_on(&text[start..end], s, row, column, chosen) {
+                match edge_on(text, start, end, s, &cells, chosen) {
                     Choice::Refused(fault) => {
                         return SubgraphAnswer::Refused(lines::refused_at(fault, next));
                     }
@@ -185,7 +176,7 @@ fn read_lines(
     column: &[u32],
     chosen: &mut [u8],
 ) -> SubgraphAnswer
-    requires { ⌜ (length (now row) ≡ s .edges) × (length (now column) ≡ s .edges) ⌝ }
+    requires { ⌜ Sound s (now row) (now column) × Distinct (now row) (now column) ⌝ }
     requires { ⌜ now chosen ≡ replicate (s .edges) 0 ⌝ }
     ensures { λ r. ⌜ SubgraphReading (graphOf s (now (row .entry)) (now (column .entry)) []) (now (text .entry)) r (now (chosen .exit)) ⌝ }
 {

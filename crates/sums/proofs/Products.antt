@@ -2,10 +2,9 @@
 use Prim.Native.Nat.{ℕ, _+_, _*_, _^_, _≤_}
 use mathlib.Core.Path.{_≡_, sym, ap, ap₂, _∙_, subst}
 use native.Mathlib.Omega.{arith}
-use native.Mathlib.Nat.{mul-le-mul-right, le-trans}
 use lib.IntN.{ℤ, pos, negℤ, _+ℤ_, _-ℤ_, _*ℤ_, +ℤ-invl, *ℤ-zero, *ℤ-comm}
 use Rattle.integers.specs.Integer.{up, dn, Within}
-use Rattle.integers.proofs.Order.{order, up-add, up-neg, within-times, within-diff}
+use Rattle.integers.proofs.Order.{order, up-add, up-neg, within-scaled, within-diff}
 use Rattle.integers.proofs.Diff.{times-add}
 use Rattle.dual.specs.Gap.{halfPoints}
 use Rattle.sums.proofs.Machine.{Fits64, held, held-is, held-within, held-both}
@@ -23,9 +22,11 @@ times-rest z a b =
     (times-add z (pos a) (negℤ (pos b))
     ∙ ap₂ _+ℤ_ (*ℤ-comm z (pos a)) (times-neg z (pos b) ∙ ap negℤ (*ℤ-comm z (pos b))))
 
--- A number within 2 ^ 31 taken at most 2 ^ 16 times.
-within-scaled : (k : ℕ) (x : ℤ) → k ≤ 2 ^ 16 → Within (2 ^ 31) x → Within (2 ^ 47) (pos k *ℤ x)
-within-scaled k x l h = le-trans (within-times k x h) (mul-le-mul-right (2 ^ 31) l)
+-- A number within 2 ^ 31 can be taken at most 2 ^ 16 times.
+pub scalable : (x : ℤ) (k : ℕ) → Fits64 x → k ≤ 2 ^ 16 → Within (2 ^ 31) x → Within (2 ^ 62) (pos k *ℤ held x)
+scalable x k h l w =
+    let v : Within (2 ^ 31) (held x) = held-within x h w (omega arith) in
+    omega (arith, within-scaled k (held x) l v)
 
 -- r is x, which is v, taken k times, and k is y.
 pub scaled : (r x : ℤ) (k : ℕ) {y v : ℤ} → Fits64 r → Fits64 x → k ≤ 2 ^ 16 → pos k ≡ y → (x ≡ v) × Within (2 ^ 31) x → r ≡ pos k *ℤ held x →

@@ -20,7 +20,8 @@ ghost use Rattle.graph.specs.Graph.{graphOf, verticesIn, boundAt};
 ghost use Rattle.graph.specs.Refusal.{lowest};
 ghost use Rattle.graph.specs.Subgraph.{markAt};
 ghost use Rattle.graph.specs.Passed.{Sound, Bounded, MarksHold};
-ghost use Rattle.dual.specs.Prices.{pricesOf, one};
+ghost use Rattle.dual.specs.Sets.{one};
+ghost use Rattle.dual.specs.Prices.{pricesOf};
 ghost use Rattle.dual.specs.Gap.{halfPoints, coverOf};
 ghost use Rattle.checks.specs.Checks.{lowestSays};
 ghost use Rattle.sets.specs.Words.{coversBy};
@@ -267,7 +268,7 @@ fn own_cover(e: usize, ends: Ends, vertex_price: &[i32], edge_price: &[i32]) -> 
     )
 }
 
-// The cover of every edge: the prices of its ends, its own, and of all odd sets that cover it.
+// Sets the table to the cover of every edge: the prices of its ends, its own, and of all odd sets that cover it.
 pub fn cover_table(
     s: Shape,
     row: &[u32],
@@ -278,13 +279,13 @@ pub fn cover_table(
     set_price: &[i32],
     insides: &[u64],
     markings: &[u64],
-) -> [i64; MOST_EDGES]
+    table: &mut [i64; MOST_EDGES],
+)
     requires { ⌜ Sound s (now row) (now column) ⌝ }
     requires { ⌜ PricesLent s (now «vertex_price») (now «edge_price») sets (now «set_price») ⌝ }
-    requires { ⌜ (length (now insides) ≡ vertexWords * sets) × (length (now markings) ≡ edgeWords * sets) ⌝ }
-    ensures { λ r. ⌜ ((e : ℕ) → e < s .edges → (getD r e (pos 0) ≡ coverOf (graphOf s (now (row .entry)) (now (column .entry)) []) (pricesOf (now («vertex_price» .entry)) (now («edge_price» .entry)) sets (now («set_price» .entry)) (now (insides .entry)) (now (markings .entry))) e) × Within (2 ^ 36) (getD r e (pos 0))) ⌝ }
+    requires { ⌜ (length (now insides) ≡ vertexWords * sets) × (length (now markings) ≡ edgeWords * sets) × (length (now table) ≡ mostEdges) ⌝ }
+    ensures { λ _. ⌜ ((e : ℕ) → e < s .edges → (getD (now (table .exit)) e (pos 0) ≡ coverOf (graphOf s (now (row .entry)) (now (column .entry)) []) (pricesOf (now («vertex_price» .entry)) (now («edge_price» .entry)) sets (now («set_price» .entry)) (now (insides .entry)) (now (markings .entry))) e) × Within (2 ^ 36) (getD (now (table .exit)) e (pos 0))) ⌝ }
 {
-    let mut table = [0i64; MOST_EDGES];
     let mut e = 0;
     while e < row.len() {
         let ends = checks::ends_of(s, row[e], column[e]);
@@ -293,13 +294,12 @@ pub fn cover_table(
         table[e] = integers::add(own, odd);
         e += 1;
     }
-    table
 }
 
 // The lowest edge whose worth, its weight in half points, is over its cover.
-pub fn lowest_uncovered(edges: u32, weight: &[i32], cover: [i64; MOST_EDGES]) -> Lowest
+pub fn lowest_uncovered(edges: u32, weight: &[i32], cover: &[i64; MOST_EDGES]) -> Lowest
     requires { ⌜ (edges ≤ mostEdges) × (length (now weight) ≡ edges) ⌝ }
-    ensures { λ r. ⌜ lowestSays r ≡ lowest edges (λ e. leZ (halfPoints (getD (now (weight .entry)) e (pos 0))) (getD cover e (pos 0))) ⌝ }
+    ensures { λ r. ⌜ lowestSays r ≡ lowest edges (λ e. leZ (halfPoints (getD (now (weight .entry)) e (pos 0))) (getD (now (cover .entry)) e (pos 0))) ⌝ }
 {
     let m = edges as usize;
     let mut e = 0;
@@ -328,10 +328,10 @@ fn excess(cover: i64, weight: &[i32], chosen: &[u8], e: usize) -> i64
 }
 
 // The slack of cover.
-pub fn cover_slack(edges: u32, cover: [i64; MOST_EDGES], weight: &[i32], chosen: &[u8]) -> i64
+pub fn cover_slack(edges: u32, cover: &[i64; MOST_EDGES], weight: &[i32], chosen: &[u8]) -> i64
     requires { ⌜ (edges ≤ mostEdges) × (length (now weight) ≡ edges) × MarksHold edges (now chosen) ⌝ }
-    requires { ⌜ ((e : ℕ) → e < edges → Within (2 ^ 36) (getD cover e (pos 0))) ⌝ }
-    ensures { λ r. ⌜ (r ≡ sumℤ edges (λ e. pos (markAt (now (chosen .entry)) e) *ℤ (getD cover e (pos 0) -ℤ halfPoints (getD (now (weight .entry)) e (pos 0))))) × Within (2 ^ 58) r ⌝ }
+    requires { ⌜ ((e : ℕ) → e < edges → Within (2 ^ 36) (getD (now cover) e (pos 0))) ⌝ }
+    ensures { λ r. ⌜ (r ≡ sumℤ edges (λ e. pos (markAt (now (chosen .entry)) e) *ℤ (getD (now (cover .entry)) e (pos 0) -ℤ halfPoints (getD (now (weight .entry)) e (pos 0))))) × Within (2 ^ 58) r ⌝ }
 {
     let m = edges as usize;
     let mut total = 0;

@@ -3,9 +3,10 @@ use mathlib.Core.Path.{_≡_, refl, sym, ap, ap₂, _∙_}
 use mathlib.Core.Bool.{Bool, cond}
 use mathlib.Core.List.{List, [], _∷_}
 use mathlib.Core.Option.{Option, none, some, Option·map}
-use Prim.Native.Nat.{ℕ, _≤_}
+use Prim.Native.Nat.{ℕ, _-_, _≤_}
 use native.Mathlib.Omega.{arith}
-use lib.ListN.{length, drop, length-drop}
+use lib.ListN.{length, take, drop, length-drop}
+use lib.Seq.{take-all}
 use Rattle.graph.proofs.Passing.{zero-one}
 use Rattle.layout.specs.declared.Rules.{Rules}
 use Rattle.layout.specs.declared.Rules.the-variants.{New, Old}
@@ -14,6 +15,10 @@ use Rattle.text.specs.Cursor.{inWord, past, pastWord, firstWord, next}
 use Rattle.text.specs.declared.Cursor.{Cursor}
 use Rattle.text.proofs.Scans.{run-le}
 use Rattle.text.proofs.Pieces.{Front, nothing, word, front}
+
+-- A line from a place on, as the part that is lent.
+pub rest-lent : (l : List ℕ) (at : ℕ) → take (length l - at) (drop at l) ≡ drop at l
+rest-lent l at = take-all (length l - at) (drop at l) (omega (arith, length-drop at l))
 
 pub natural-nil : (rules : Rules) → natural rules [] ≡ none
 unfolding natural numeral

@@ -2,9 +2,9 @@
 ghost use mathlib.Core.Path.{_≡_};
 ghost use mathlib.Core.List.{[], _∷_, map};
 ghost use mathlib.Core.Option.{Option·map};
-ghost use Prim.Native.Nat.{_+_, _≤_};
+ghost use Prim.Native.Nat.{_+_, _-_, _≤_};
 ghost use lib.IntN.{pos, negℤ};
-ghost use lib.ListN.{length, drop};
+ghost use lib.ListN.{length, take, drop};
 ghost use Rattle.layout.specs.Text.{blank, lower, words, numeral, padded, natural, aboveZero, afterPlus, afterMinus, integer, oneWord, twoWords, threeWords, noWords, blankLine, startsWith, commentLine, same, begins, header};
 ghost use Rattle.text.specs.Cursor.{inLine, inWord, past, nextLine, wordAt, next, naturalSays, integerSays, nextNaturalSays, nextIntegerSays, pairSays, tripleSays, edgeLineSays, zeroRefused, NineDigits, within, follow, KeyTaken, FirstWord, kindSays, kindTold};
 use graph::Kind;
@@ -398,8 +398,8 @@ pub enum Pair {
     Bad,
 }
 
-// A line of two sizes or indices.
-pub fn two_naturals(line: &[u8], rules: Rules) -> Pair
+// The words of a line as two sizes or indices.
+fn pair_numbers(line: &[u8], rules: Rules) -> Pair
     ensures { λ r. ⌜ pairSays r ≡ twoWords (natural rules) (natural rules) (words (now (line .entry))) ⌝ }
 {
     let c = Cursor { at: 0, line: 0 };
@@ -410,6 +410,21 @@ pub fn two_naturals(line: &[u8], rules: Rules) -> Pair
         return Pair::Bad;
     };
     Pair::Is(a, b)
+}
+
+// The line of a text from `start` to `end`, of two sizes or indices. Loops call this with the whole text: a part that is made for a call goes through memory.
+pub fn two_naturals_in(text: &[u8], start: usize, end: usize, rules: Rules) -> Pair
+    requires { ⌜ (start ≤ end) × (end ≤ length (now text)) ⌝ }
+    ensures { λ r. ⌜ pairSays r ≡ twoWords (natural rules) (natural rules) (words (take (end - start) (drop start (now (text .entry))))) ⌝ }
+{
+    pair_numbers(&text[start..end], rules)
+}
+
+// A line of two sizes or indices.
+pub fn two_naturals(line: &[u8], rules: Rules) -> Pair
+    ensures { λ r. ⌜ pairSays r ≡ twoWords (natural rules) (natural rules) (words (now (line .entry))) ⌝ }
+{
+    two_naturals_in(line, 0, line.len(), rules)
 }
 
 pub enum Triple {
@@ -447,8 +462,8 @@ pub enum EdgeLine {
     Bad,
 }
 
-// A line of an edge: row, column, weight.
-pub fn edge_line(line: &[u8], rules: Rules) -> EdgeLine
+// The words of a line as an edge: row, column, weight.
+fn edge_numbers(line: &[u8], rules: Rules) -> EdgeLine
     ensures { λ r. ⌜ edgeLineSays r ≡ threeWords (natural rules) (natural rules) (integer rules) (words (now (line .entry))) ⌝ }
 {
     let start = Cursor { at: 0, line: 0 };
@@ -474,6 +489,21 @@ pub fn edge_line(line: &[u8], rules: Rules) -> EdgeLine
         column,
         weight,
     }
+}
+
+// The line of a text from `start` to `end`, of an edge.
+pub fn edge_line_in(text: &[u8], start: usize, end: usize, rules: Rules) -> EdgeLine
+    requires { ⌜ (start ≤ end) × (end ≤ length (now text)) ⌝ }
+    ensures { λ r. ⌜ edgeLineSays r ≡ threeWords (natural rules) (natural rules) (integer rules) (words (take (end - start) (drop start (now (text .entry))))) ⌝ }
+{
+    edge_numbers(&text[start..end], rules)
+}
+
+// A line of an edge.
+pub fn edge_line(line: &[u8], rules: Rules) -> EdgeLine
+    ensures { λ r. ⌜ edgeLineSays r ≡ threeWords (natural rules) (natural rules) (integer rules) (words (now (line .entry))) ⌝ }
+{
+    edge_line_in(line, 0, line.len(), rules)
 }
 
 // A to Z as a to z, and every other byte as it is.

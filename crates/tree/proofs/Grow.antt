@@ -10,9 +10,8 @@ use lib.Dec.{eqb}
 use Rattle.integers.specs.Sum.{sum, is}
 use Rattle.integers.proofs.Sum.{is-other, sum-change, sum-const}
 use Rattle.graph.specs.Graph.{Graph, vertices}
-use Rattle.tree.specs.Method.{level}
 use Rattle.tree.specs.Tree.{tail, head, slack}
-use Rattle.tree.specs.Front.{far, Listed, Settled, Reach, Distances, AtRow, AtColumn, Bounded, State, Looked}
+use Rattle.tree.specs.Front.{far, Listed, Settled, Reach, Distances, AtEnd, Bounded, State, Looked}
 use Rattle.tree.proofs.Leading.{lt-or-ge, if-same, if-other, Put}
 
 -- The function f, but for a at v.
@@ -111,10 +110,10 @@ module _ (root : ℕ) where
   settled = record { seen = omega (arith, only .at); early = omega (arith, only .at) }
 
 -- The start.
-pub start : {g : Graph} {x : List ℕ} {price room dist label order : ℕ → ℕ} {root top : ℕ} → root < g .rows → g .rows ≤ vertices g →
-    dist root ≡ 0 → ((v : ℕ) → v < vertices g → v ≢ root → dist v ≡ far) → order 0 ≡ root → price root ≡ top + level → top ≤ level
-    → State g x price room dist label order root 1 1 0 top root root
-start {g} {x} {price} {room} {dist} {label} {order} {root} {top} low rows-in at other first price-is small = record {
+pub start : {g : Graph} {x : List ℕ} {price exit dist label order : ℕ → ℕ} {root goal : ℕ} → root < vertices g →
+    dist root ≡ 0 → ((v : ℕ) → v < vertices g → v ≢ root → dist v ≡ far) → order 0 ≡ root → goal ≡ exit root → goal ≤ far
+    → State g x price exit dist label order root 1 1 0 goal root root
+start {g} {x} {price} {exit} {dist} {label} {order} {root} {goal} low at other first goal-is small = record {
   spot = alone root;
   list = record {
     inside = λ v a. omega (arith, the-root root v a);
@@ -138,23 +137,25 @@ start {g} {x} {price} {room} {dist} {label} {order} {root} {top} low rows-in at 
     some = λ v a. omega (arith, ap dist (the-root root v a), at);
     low = λ v a. omega (arith, ap dist (the-root root v (a .seen)), at);
     high = λ v a. omega arith;
-    free = λ v c a k. absurd (omega (arith, the-root root v a));
+    ways = λ v a. omega (arith, ap dist (the-root root v a), ap exit (the-root root v a), at, goal-is);
     reach = λ v n a. absurd (n (the-root root v a));
+    start = at;
+    first = only root .at;
     root-first = settled root;
   };
   top = record {
     least = omega arith;
     small = small;
-    low = λ v l a. omega (arith, ap dist (the-root root v (a .seen)), ap price (the-root root v (a .seen)), at, price-is);
-    ends = inl (record { row = low; settled = settled root; sum = omega (arith, at, price-is) });
+    ends = ⊎-elim (λ l. inr (record { seen = settled root .seen; way = omega (arith, goal-is); here = omega (arith, at, goal-is) }))
+        (λ l. inl (omega arith)) (lt-or-ge goal far);
   };
   newest = only root .at;
   here = at;
   older = λ q l a b. absurd (omega (arith, a .seen));
 }
 
-module _ {g : Graph} {x : List ℕ} {price room dist label order : ℕ → ℕ} {root count reached d most end u : ℕ}
-    (s : State g x price room dist label order root count reached d most end u) where
+module _ {g : Graph} {x : List ℕ} {price exit dist label order : ℕ → ℕ} {root count reached d goal end u : ℕ}
+    (s : State g x price exit dist label order root count reached d goal end u) where
   some-settled : 0 < count
   some-settled = omega (arith, s .dists .root-first .seen, s .dists .root-first .early)
 
@@ -186,12 +187,12 @@ module _ {g : Graph} {x : List ℕ} {price room dist label order : ℕ → ℕ} 
   -- The edge leads from the vertex settled last to vertex w, at distance h.
   module _ {e w h : ℕ} (inside : e < g .edges) (from : tail g x e ≡ u) (to : head g x e ≡ w) (sum : d + slack g price e ≡ h) where
     -- It brings w no nearer, or no end nearer.
-    pub look-passed : (dist w ≤ h) ⊎ (most ≤ h) → Bounded g x price dist most e
+    pub look-passed : (dist w ≤ h) ⊎ (goal ≤ h) → Bounded g x price dist goal e
     look-passed = ⊎-elim (λ l. inl (omega (arith, ap dist from, ap dist to, s .here, sum))) (λ l. inr (omega (arith, ap dist from, s .here, sum)))
 
     -- It brings w nearer.
-    module _ {dist′ label′ order′ : ℕ → ℕ} {reached′ most′ : ℕ} (nearer : h < dist w) (below : h < most) (dp : Put dist dist′ w h)
-        (lp : Put label label′ w e) (r : Relisted (vertices g) (s .spot) count w order′ reached′) (falls : most′ ≤ most) where
+    module _ {dist′ label′ order′ : ℕ → ℕ} {reached′ goal′ : ℕ} (nearer : h < dist w) (below : h < goal) (dp : Put dist dist′ w h)
+        (lp : Put label label′ w e) (r : Relisted (vertices g) (s .spot) count w order′ reached′) (falls : goal′ ≤ goal) where
       -- A settled vertex is another one, and stays as it is.
       other : (v : ℕ) → Settled (s .spot) count v → v ≢ w
       other v a i = omega (arith, s .dists .low v a, ap dist i, sum)
@@ -212,15 +213,15 @@ module _ {g : Graph} {x : List ℕ} {price room dist label order : ℕ → ℕ} 
       dist-less v = elim (ℕ-discrete v w) [ yes i ↦ omega (arith, ap dist′ i, dp .at, ap dist i, nearer) | no i ↦ omega (arith, dp .other v i) ]
 
       -- What edges from settled vertices say stays.
-      pub bounded-same : (q : ℕ) → Settled (s .spot) count (tail g x q) → Bounded g x price dist most q → Bounded g x price dist′ most′ q
+      pub bounded-same : (q : ℕ) → Settled (s .spot) count (tail g x q) → Bounded g x price dist goal q → Bounded g x price dist′ goal′ q
       bounded-same q a = ⊎-elim (λ l. inl (omega (arith, dist-less (head g x q), dist-same (tail g x q) a))) (λ l. inr (omega (arith, dist-same (tail g x q) a, falls)))
 
-      pub bounded-here : Bounded g x price dist′ most′ e
+      pub bounded-here : Bounded g x price dist′ goal′ e
       bounded-here =
           let a = last-settled in
           inl (omega (arith, ap dist′ from, ap dist′ to, dp .at, dist-same u a, s .here, sum))
 
-      pub looked-same : {edge : ℕ → ℕ} {start k : ℕ} → Looked g x price dist most u edge start k → Looked g x price dist′ most′ u edge start k
+      pub looked-same : {edge : ℕ → ℕ} {start k : ℕ} → Looked g x price dist goal u edge start k → Looked g x price dist′ goal′ u edge start k
       looked-same {edge} l = record {
         each = λ j a b i. bounded-same (edge j) (subst (λ v. Settled (s .spot) count v) (sym i) last-settled) (l .each j a b i);
       }
@@ -246,8 +247,8 @@ module _ {g : Graph} {x : List ℕ} {price room dist label order : ℕ → ℕ} 
       some-old : (v : ℕ) → v ≢ w → 0 < r .spot′ v → 0 < s .spot v
       some-old v n a = omega (arith, r .same v n)
 
-      module _ (open-end : g .rows ≤ w → 0 < room w → most′ ≡ h) where
-        dists′ : Distances g x price room dist′ label′ (r .spot′) root count d most′
+      module _ (no-farther : goal′ ≤ h + exit w) where
+        dists′ : Distances g x price exit dist′ label′ (r .spot′) root count d goal′
         dists′ = record {
           none = λ v l z.
               let n : v ≢ w = λ i. omega (arith, ap (r .spot′) i, r .later) in
@@ -261,9 +262,9 @@ module _ {g : Graph} {x : List ℕ} {price room dist label order : ℕ → ℕ} 
             | yes i ↦ omega (arith, ap dist′ i, dp .at, sum)
             | no n ↦ omega (arith, dp .other v n, s .dists .high v (omega (arith, r .same v n)))
           ];
-          free = λ v c a k. elim (ℕ-discrete v w) [
-            | yes i ↦ omega (arith, ap dist′ i, dp .at, open-end (omega (arith, i)) (omega (arith, ap room i)))
-            | no n ↦ omega (arith, dp .other v n, s .dists .free v c (some-old v n a) k, falls)
+          ways = λ v a. elim (ℕ-discrete v w) [
+            | yes i ↦ omega (arith, ap dist′ i, dp .at, ap exit i, no-farther)
+            | no n ↦ omega (arith, dp .other v n, s .dists .ways v (some-old v n a), falls)
           ];
           reach = λ v n a. elim (ℕ-discrete v w) [
             | yes i ↦
@@ -275,11 +276,13 @@ module _ {g : Graph} {x : List ℕ} {price room dist label order : ℕ → ℕ} 
                 subst (λ q. Reach g x price dist′ (r .spot′) count q v (dist′ v)) (sym (lp .other v m))
                 (subst (λ z. Reach g x price dist′ (r .spot′) count (label v) v z) (sym (dp .other v m)) (reach-same m (s .dists .reach v n (some-old v m a))))
           ];
+          start = dist-same root (s .dists .root-first) ∙ s .dists .start;
+          first = r .same root (other root (s .dists .root-first)) ∙ s .dists .first;
           root-first = settled-same root (s .dists .root-first);
         }
 
-        grown : {end′ : ℕ} → d ≤ most′ → AtRow g price dist′ (r .spot′) count most′ end′ ⊎ AtColumn g room dist′ (r .spot′) most′ end′ →
-            State g x price room dist′ label′ order′ root count reached′ d most′ end′ u
+        grown : {end′ : ℕ} → d ≤ goal′ → (goal′ ≡ far) ⊎ AtEnd exit dist′ (r .spot′) goal′ end′ →
+            State g x price exit dist′ label′ order′ root count reached′ d goal′ end′ u
         grown least ends = record {
           spot = r .spot′;
           list = r .list;
@@ -288,7 +291,6 @@ module _ {g : Graph} {x : List ℕ} {price room dist label order : ℕ → ℕ} 
           top = record {
             least = least;
             small = omega (arith, s .top .small, falls);
-            low = λ v l a. omega (arith, dist-same v (was-settled v a), s .top .low v l (was-settled v a), falls);
             ends = ends;
           };
           newest = r .same u (other u last-settled) ∙ s .newest;
@@ -298,27 +300,21 @@ module _ {g : Graph} {x : List ℕ} {price room dist label order : ℕ → ℕ} 
               bounded-same q c (s .older q l c (omega (arith, r .same (tail g x q) (was-other (tail g x q) a))));
         }
 
-    -- Where w has no room, the nearest end stays.
-    module _ {dist′ label′ order′ : ℕ → ℕ} {reached′ : ℕ} (nearer : h < dist w) (below : h < most) (dp : Put dist dist′ w h) (lp : Put label label′ w e)
-        (r : Relisted (vertices g) (s .spot) count w order′ reached′) (full : g .rows ≤ w → room w ≡ 0) where
-      pub look-reaches : State g x price room dist′ label′ order′ root count reached′ d most end u
-      look-reaches = grown nearer below dp lp r (omega arith) (λ c k. absurd (omega (arith, full c))) (s .top .least) (ends-same (s .top .ends))
+    -- Where no path ends nearer by w, the nearest end stays.
+    module _ {dist′ label′ order′ : ℕ → ℕ} {reached′ : ℕ} (nearer : h < dist w) (below : h < goal) (dp : Put dist dist′ w h) (lp : Put label label′ w e)
+        (r : Relisted (vertices g) (s .spot) count w order′ reached′) (farther : goal ≤ h + exit w) where
+      pub look-reaches : State g x price exit dist′ label′ order′ root count reached′ d goal end u
+      look-reaches = grown nearer below dp lp r (omega arith) farther (s .top .least) (⊎-elim (λ f. inl f) (λ a. inr (ends-same a)) (s .top .ends))
         where
-          ends-same : AtRow g price dist (s .spot) count most end ⊎ AtColumn g room dist (s .spot) most end →
-              AtRow g price dist′ (r .spot′) count most end ⊎ AtColumn g room dist′ (r .spot′) most end
-          ends-same = ⊎-elim
-              (λ a. inl (record {
-                row = a .row;
-                settled = settled-same {most′ = most} nearer below dp lp r (omega arith) end (a .settled);
-                sum = omega (arith, dist-same {most′ = most} nearer below dp lp r (omega arith) end (a .settled), a .sum);
-              }))
-              (λ a.
-              let n : end ≢ w = λ i. omega (arith, i, full (omega (arith, i, a .column)), ap room i, a .roomy) in
-              inr (record { column = a .column; seen = omega (arith, r .same end n, a .seen); roomy = a .roomy; here = dp .other end n ∙ a .here }))
+          -- The end is another vertex: by w the path would be shorter now.
+          ends-same : AtEnd exit dist (s .spot) goal end → AtEnd exit dist′ (r .spot′) goal end
+          ends-same a =
+              let n : end ≢ w = λ i. omega (arith, a .here, ap dist i, ap exit i, nearer, farther) in
+              record { seen = omega (arith, r .same end n, a .seen); way = a .way; here = omega (arith, dp .other end n, a .here) }
 
-    -- Where it has room, the path may end there.
-    module _ {dist′ label′ order′ : ℕ → ℕ} {reached′ : ℕ} (nearer : h < dist w) (below : h < most) (dp : Put dist dist′ w h) (lp : Put label label′ w e)
-        (r : Relisted (vertices g) (s .spot) count w order′ reached′) (column : g .rows ≤ w) (roomy : 0 < room w) where
-      pub look-ends : State g x price room dist′ label′ order′ root count reached′ d h w u
-      look-ends = grown nearer below dp lp r (omega arith) (λ c k. refl) (omega (arith, sum))
-          (inr (record { column = column; seen = omega (arith, r .later); roomy = roomy; here = dp .at }))
+    -- Where one does, w is the end.
+    module _ {dist′ label′ order′ : ℕ → ℕ} {reached′ : ℕ} (nearer : h < dist w) (below : h < goal) (dp : Put dist dist′ w h) (lp : Put label label′ w e)
+        (r : Relisted (vertices g) (s .spot) count w order′ reached′) (ends : h + exit w < goal) where
+      pub look-ends : State g x price exit dist′ label′ order′ root count reached′ d (h + exit w) w u
+      look-ends = grown nearer below dp lp r (omega arith) (omega arith) (omega (arith, sum))
+          (inr (record { seen = omega (arith, r .later); way = omega (arith, s .top .small); here = omega (arith, dp .at) }))

@@ -1,5 +1,5 @@
 -- How an edge leads: its tail and head, and its slack.
-use Prim.Native.Nat.{ℕ, _+_, _-_, _≤_, _<_}
+use Prim.Native.Nat.{ℕ, _+_, _≤_, _<_}
 use mathlib.Core.Path.{_≡_, ap}
 use mathlib.Core.Logic.{_≢_, _⊎_, inl, inr, ⊎-elim}
 use mathlib.Core.Bool.{Bool, cond}
@@ -9,12 +9,11 @@ use native.Mathlib.Nat.{eq-zero-or-pos}
 use native.Mathlib.Decide.{decLt}
 use lib.Dec.{eqb}
 use borrow.Author.Tests.{eq-eqb, ne-eqb}
-use lib.IntN.{ℤ}
 use lib.ListN.{length, set}
 use lib.Seq.{getD-set-same, getD-set-other}
 use Rattle.graph.specs.Graph.{Graph, firstEnd, secondEnd}
 use Rattle.graph.specs.Subgraph.{markAt}
-use Rattle.tree.specs.Method.{value, cost, Solvable, Good}
+use Rattle.tree.specs.Method.{value, cost, Good}
 use Rattle.tree.specs.Tree.{entries, tail, head, apart, slack}
 
 pub lt-or-ge : (a b : ℕ) → (a < b) ⊎ (b ≤ a)
@@ -63,7 +62,7 @@ apart-over a b h = omega arith
 pub apart-under : (a b : ℕ) → a ≤ b → apart a b + a ≡ b
 apart-under a b h = omega arith
 
-module _ {g : Graph} {bound : List ℤ} {x : List ℕ} {price : ℕ → ℕ} (good : Good g bound x price) (e : ℕ) (inside : e < g .edges) where
+module _ {g : Graph} {least most : ℕ → ℕ} {x : List ℕ} {price : ℕ → ℕ} (good : Good g least most x price) (e : ℕ) (inside : e < g .edges) where
   pub leads : Out g x e ⊎ Back g x e
   leads = arc g x e (good .marks e)
 

@@ -21,6 +21,7 @@ use Rattle.graph.proofs.Index.{seen, seen-next, offset-next, offset-more}
 use Rattle.tree.specs.Lists.{nowhere, Among, Listing}
 use Rattle.tree.proofs.Leading.{lt-or-ge}
 use Rattle.tree.proofs.Solvable.{after-rows}
+use Rattle.tree.proofs.Places.{columns-places}
 
 -- ---- degrees and edges
 
@@ -57,6 +58,19 @@ module _ (g : Graph) (s : Sound (shapeOf g) (g .row) (g .column)) where
 
 -- ---- places
 
+-- The second end of an edge is a column vertex, and the column vertices have as many places as there are edges.
+pub record Columns (g : Graph) : Type 0 where
+  pub from : (e : ℕ) → e < g .edges → g .rows ≤ secondEnd g e
+  pub to : (e : ℕ) → e < g .edges → secondEnd g e < vertices g
+  pub places : offset g (vertices g) ≡ offset g (g .rows) + g .edges
+
+pub columns : (g : Graph) → g .kind ≡ Bipartite → Sound (shapeOf g) (g .row) (g .column) → Columns g
+columns g bipartite s = record {
+  from = λ e l. after-rows (g .kind) (g .rows) (columnAt g e) bipartite;
+  to = λ e l. s .ends e l .second;
+  places = columns-places g bipartite s;
+}
+
 -- A place of a column vertex's list is one from the vertex's offset to the next, counted from that of the first column vertex.
 module _ {g : Graph} {used : ℕ → ℕ} {c k : ℕ} (a : g .rows ≤ c) (f : used c ≤ length (edgesOf g c)) (m : Among g used c k) where
   place-from : offset g c ≤ offset g (g .rows) + k
@@ -68,11 +82,11 @@ module _ {g : Graph} {used : ℕ → ℕ} {c k : ℕ} (a : g .rows ≤ c) (f : u
 module _ {g : Graph} {used : ℕ → ℕ} (fits : (c : ℕ) → g .rows ≤ c → c < vertices g → used c ≤ length (edgesOf g c))
     {c k : ℕ} (a : g .rows ≤ c) (b : c < vertices g) (m : Among g used c k) where
   -- Every place stands before the end of all lists.
-  pub among-below : k < nowhere g
-  among-below = omega (arith, place-to a (fits c a b) m, offset-more g (c + 1) (vertices g) (omega arith))
+  pub among-below : Columns g → k < nowhere g
+  among-below n = omega (arith, place-to a (fits c a b) m, offset-more g (c + 1) (vertices g) (omega arith), n .places)
 
-  pub among-somewhere : k ≢ nowhere g
-  among-somewhere q = omega (arith, q, among-below)
+  pub among-somewhere : Columns g → k ≢ nowhere g
+  among-somewhere n q = omega (arith, q, among-below n)
 
   -- A place is of one column vertex's list only.
   pub one-list : {d : ℕ} → g .rows ≤ d → d < vertices g → Among g used d k → c ≡ d
@@ -85,14 +99,6 @@ module _ {g : Graph} {used : ℕ → ℕ} (fits : (c : ℕ) → g .rows ≤ c �
   ]
 
 -- ---- lists
-
--- The second end of an edge is a column vertex.
-pub record Columns (g : Graph) : Type 0 where
-  pub from : (e : ℕ) → e < g .edges → g .rows ≤ secondEnd g e
-  pub to : (e : ℕ) → e < g .edges → secondEnd g e < vertices g
-
-pub columns : (g : Graph) → g .kind ≡ Bipartite → Sound (shapeOf g) (g .row) (g .column) → Columns g
-columns g bipartite s = record { from = λ e l. after-rows (g .kind) (g .rows) (columnAt g e) bipartite; to = λ e l. s .ends e l .second }
 
 -- The lists are the same where the column vertices have as many places.
 pub recount : {g : Graph} {x : List ℕ} {used used′ list place : ℕ → ℕ} {hole : ℕ} → Columns g →

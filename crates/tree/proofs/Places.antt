@@ -8,12 +8,14 @@ use native.Mathlib.Decide.{ℕ-discrete}
 use lib.ListN.{length, getD}
 use Rattle.integers.specs.Sum.{sum, is}
 use Rattle.integers.proofs.Sum.{is-same, is-other, sum-cong, sum-add, sum-none, sum-alone}
-use Rattle.graph.specs.Graph.{Graph, vertices, firstEnd, secondEnd}
+use Rattle.graph.specs.declared.Kind.the-variants.{Bipartite}
+use Rattle.graph.specs.Graph.{Graph, shapeOf, vertices, columnAt, firstEnd, secondEnd}
 use Rattle.graph.specs.Subgraph.{endsAt}
 use Rattle.graph.specs.Index.{isEnd, edgesOf, offset, indexOf}
+use Rattle.graph.specs.Passed.{Sound}
 use Rattle.graph.proofs.Index.{item-at, seen, is-end-not, offset-at, offset-next, offset-more, number-in, edge-at, seen-next, offset-end, index-long}
 use Rattle.tree.specs.Method.{Solvable}
-use Rattle.tree.proofs.Solvable.{first-to, second-from}
+use Rattle.tree.proofs.Solvable.{after-rows, second-from}
 
 -- Edge e stands at place k, under vertex u.
 pub record At (g : Graph) (u k e : ℕ) : Type 0 where
@@ -76,23 +78,30 @@ module _ {g : Graph} (net : Solvable g) where
     | no i ↦ absurd (true≢false (sym end ∙ is-end-not g e u i (λ s. omega (arith, s, second-from net e l))))
   ]
 
-  -- Each edge counts once among the row vertices.
+-- Each edge counts once among the row vertices.
+module _ (g : Graph) (bipartite : g .kind ≡ Bipartite) (sound : Sound (shapeOf g) (g .row) (g .column)) where
   row-end : (e : ℕ) → e < g .edges → sum (g .rows) (λ v. endsAt g v e) ≡ 1
   row-end e l =
-      sum-alone (g .rows) (firstEnd g e) (λ v. endsAt g v e) (first-to net e l)
+      sum-alone (g .rows) (firstEnd g e) (λ v. endsAt g v e) (sound .ends e l .inRows)
       (λ v b n. omega (arith, is-other (firstEnd g e) v (λ s. n (sym s)), other v b))
-      ∙ omega (arith, is-same (firstEnd g e), other (firstEnd g e) (first-to net e l))
+      ∙ omega (arith, is-same (firstEnd g e), other (firstEnd g e) (sound .ends e l .inRows))
     where
       other : (v : ℕ) → v < g .rows → is (secondEnd g e) v ≡ 0
-      other v b = is-other (secondEnd g e) v (λ s. omega (arith, s, second-from net e l))
+      other v b = is-other (secondEnd g e) v (λ s. omega (arith, s, after-rows (g .kind) (g .rows) (columnAt g e) bipartite))
 
   once : (k : ℕ) → k ≤ g .edges → sum (g .rows) (λ v. seen g v k) ≡ k
   once zero l = sum-none (g .rows) (λ v. seen g v zero) (λ v b. refl)
   once (suc k) l =
-      sum-cong (g .rows) (λ v. seen g v (suc k)) (λ v. seen g v k + endsAt g v k) (λ v b. seen-next g (net .passed .sound) v k (omega arith))
+      sum-cong (g .rows) (λ v. seen g v (suc k)) (λ v. seen g v k + endsAt g v k) (λ v b. seen-next g sound v k (omega arith))
       ∙ sum-add (g .rows) (λ v. seen g v k) (λ v. endsAt g v k)
       ∙ omega (arith, once k (omega arith), row-end k (omega arith))
 
-  -- The row vertices have as many places as there are edges.
-  pub offset-rows : offset g (g .rows) ≡ g .edges
-  offset-rows = once (g .edges) (omega arith)
+  -- The row vertices have as many places as there are edges, and so have the column vertices.
+  rows-places : offset g (g .rows) ≡ g .edges
+  rows-places = once (g .edges) (omega arith)
+
+  pub columns-places : offset g (vertices g) ≡ offset g (g .rows) + g .edges
+  columns-places = omega (arith, rows-places, offset-end g sound)
+
+pub offset-rows : {g : Graph} → Solvable g → offset g (g .rows) ≡ g .edges
+offset-rows {g} net = rows-places g (net .bipartite) (net .passed .sound)

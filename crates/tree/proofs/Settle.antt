@@ -9,9 +9,8 @@ use native.Mathlib.Decide.{ℕ-discrete}
 use Rattle.integers.specs.Sum.{is}
 use Rattle.integers.proofs.Sum.{is-other, sum-cong}
 use Rattle.graph.specs.Graph.{Graph, vertices}
-use Rattle.tree.specs.Method.{level}
 use Rattle.tree.specs.Tree.{tail}
-use Rattle.tree.specs.Front.{Listed, Settled, Reach, Distances, AtRow, AtColumn, Top, Bounded, State, Leaving, Owned, keeps, takes}
+use Rattle.tree.specs.Front.{Listed, Settled, Reach, Distances, AtEnd, Bounded, State, Leaving}
 use Rattle.tree.proofs.Leading.{lt-or-ge}
 use Rattle.tree.proofs.Grow.{but, but-put, last-settled, open-or-settled}
 
@@ -28,8 +27,8 @@ swap-but f v a w b = record {
   other = λ u n m. but-put (but f v a) w b .other u m ∙ but-put f v a .other u n;
 }
 
-module _ {g : Graph} {x : List ℕ} {price room dist label order : ℕ → ℕ} {root count reached d most end u : ℕ}
-    (s : State g x price room dist label order root count reached d most end u) where
+module _ {g : Graph} {x : List ℕ} {price exit dist label order : ℕ → ℕ} {root count reached d goal end u : ℕ}
+    (s : State g x price exit dist label order root count reached d goal end u) where
   -- The vertex settled last is the only one at its place.
   only : (v : ℕ) → Settled (s .spot) count v → count ≤ s .spot v → v ≡ u
   only v a l =
@@ -37,7 +36,7 @@ module _ {g : Graph} {x : List ℕ} {price room dist label order : ℕ → ℕ} 
       sym (s .list .back v (a .seen) .1) ∙ ap (λ k. order (k - 1)) here ∙ s .list .back u (last-settled s .seen) .1
 
   -- An open vertex is nearer than the end where no open vertex is: so a vertex that is nearer is settled.
-  near : ((i : ℕ) → count ≤ i → i < reached → most ≤ dist (order i)) → (v : ℕ) → v < vertices g → dist v < most → Settled (s .spot) count v
+  near : ((i : ℕ) → count ≤ i → i < reached → goal ≤ dist (order i)) → (v : ℕ) → v < vertices g → dist v < goal → Settled (s .spot) count v
   near low v l b = ⊎-elim (λ z. absurd (omega (arith, s .dists .none v l z, s .top .small)))
       (λ a. ⊎-elim (λ h. h)
       (λ h.
@@ -47,7 +46,7 @@ module _ {g : Graph} {x : List ℕ} {price room dist label order : ℕ → ℕ} 
       (eq-zero-or-pos (s .spot v))
 
   -- An end as near as the vertex settled last is the nearest of all.
-  pub left-early : most ≡ d → Leaving g x price room dist label order root count most end
+  pub left-early : goal ≡ d → Leaving g x price exit dist label order root count goal end
   left-early e = record {
     d = d;
     reached = reached;
@@ -58,19 +57,18 @@ module _ {g : Graph} {x : List ℕ} {price room dist label order : ℕ → ℕ} 
   }
 
   -- All edges from the vertex settled last were looked at.
-  module _ (all : (q : ℕ) → q < g .edges → tail g x q ≡ u → Bounded g x price dist most q) where
-    scanned-all : (q : ℕ) → q < g .edges → Settled (s .spot) count (tail g x q) → Bounded g x price dist most q
+  module _ (all : (q : ℕ) → q < g .edges → tail g x q ≡ u → Bounded g x price dist goal q) where
+    scanned-all : (q : ℕ) → q < g .edges → Settled (s .spot) count (tail g x q) → Bounded g x price dist goal q
     scanned-all q l a = ⊎-elim (λ o. s .older q l a o) (λ o. all q l (only (tail g x q) a o)) (lt-or-ge (s .spot (tail g x q)) count)
 
     -- No open vertex is nearer than the end.
-    pub left-last : ((i : ℕ) → count ≤ i → i < reached → most ≤ dist (order i)) → Leaving g x price room dist label order root count most end
+    pub left-last : ((i : ℕ) → count ≤ i → i < reached → goal ≤ dist (order i)) → Leaving g x price exit dist label order root count goal end
     left-last low = record { d = d; reached = reached; u = u; state = s; near = near low; looked = λ q l a b. scanned-all q l a }
 
     -- Vertex w, the nearest of the open ones, is settled next: it changes places with the first of them, y.
-    module _ {order′ : ℕ → ℕ} {place w most′ end′ : ℕ} (from-count : count ≤ place) (to-reached : place < reached) (w-is : w ≡ order place)
-        (nearer : dist w < most) (low : (i : ℕ) → count ≤ i → i < reached → dist w ≤ dist (order i))
-        (swapped : Swap order order′ place (order count) count w) (own : Owned (g .rows) (price w) w (dist w) most end most′ end′)
-        (least : w < g .rows → level ≤ price w) where
+    module _ {order′ : ℕ → ℕ} {place w : ℕ} (from-count : count ≤ place) (to-reached : place < reached) (w-is : w ≡ order place)
+        (nearer : dist w < goal) (low : (i : ℕ) → count ≤ i → i < reached → dist w ≤ dist (order i))
+        (swapped : Swap order order′ place (order count) count w) where
       abbrev y : ℕ
       y = order count
 
@@ -182,11 +180,7 @@ module _ {g : Graph} {x : List ℕ} {price room dist label order : ℕ → ℕ} 
       high-w : d ≤ dist w
       high-w = s .dists .high w (omega (arith, spot-w))
 
-      fall : (m f : ℕ) → Owned (g .rows) (price w) w (dist w) most end m f → m ≤ most
-      fall m f (keeps h i j) = omega (arith, i)
-      fall m f (takes l h b j) = omega (arith, b)
-
-      dists′ : Distances g x price room dist label spot′ root (count + 1) (dist w) most′
+      dists′ : Distances g x price exit dist label spot′ root (count + 1) (dist w) goal
       dists′ = record {
         none = λ v l z. s .dists .none v l (same-none v z);
         some = λ v a. s .dists .some v (same-some v a);
@@ -197,54 +191,32 @@ module _ {g : Graph} {x : List ℕ} {price room dist label order : ℕ → ℕ} 
             let k = s .list .back v b in
             let c : count < s .spot v = ⊎-elim (λ h. absurd (omega (arith, still-settled v h .early))) (λ h. h) (open-or-settled s v b) in
             omega (arith, low (s .spot v - 1) (omega (arith, c)) (omega (arith, k .0)), ap dist (k .1));
-        free = λ v c a k. omega (arith, s .dists .free v c (same-some v a) k, fall most′ end′ own);
+        ways = λ v a. s .dists .ways v (same-some v a);
         reach = λ v n a.
             let r = s .dists .reach v n (same-some v a) in
             reach-same (above v (tail g x (label v)) (r .from .early) (r .less)) r;
+        start = s .dists .start;
+        first = same root (s .dists .root-first) ∙ s .dists .first;
         root-first = still-settled root (s .dists .root-first);
       }
 
-      ends-same : AtRow g price dist (s .spot) count most end ⊎ AtColumn g room dist (s .spot) most end →
-          AtRow g price dist spot′ (count + 1) most end ⊎ AtColumn g room dist spot′ most end
-      ends-same = ⊎-elim (λ a. inl (record { row = a .row; settled = still-settled end (a .settled); sum = a .sum }))
-          (λ a. inr (record {
-            column = a .column;
-            seen = ⊎-elim (λ z. absurd (omega (arith, same-none end z, a .seen))) (λ h. h) (eq-zero-or-pos (spot′ end));
-            roomy = a .roomy;
-            here = a .here;
-          }))
-
-      top-low : {m : ℕ} → m ≤ most → (w < g .rows → m + level ≤ dist w + price w) → (v : ℕ) → v < g .rows → Settled spot′ (count + 1) v → m + level ≤ dist v + price v
-      top-low b h v l a = elim (ℕ-discrete v w) [
-        | yes i ↦ omega (arith, ap dist i, ap price i, h (omega (arith, i)))
-        | no i ↦ omega (arith, s .top .low v l (was-settled v a i))
-      ]
-
-      top′ : (m f : ℕ) → Owned (g .rows) (price w) w (dist w) most end m f → Top g price room dist spot′ (count + 1) (dist w) m f
-      top′ m f (keeps h i j) = record {
-        least = omega (arith, i, nearer);
-        small = omega (arith, i, s .top .small);
-        low = top-low (omega (arith, i)) (λ l. omega (arith, i, h l));
-        ends = subst (λ m. AtRow g price dist spot′ (count + 1) m f ⊎ AtColumn g room dist spot′ m f) (sym i)
-            (subst (λ f. AtRow g price dist spot′ (count + 1) most f ⊎ AtColumn g room dist spot′ most f) (sym j) (ends-same (s .top .ends)));
-      }
-      top′ m f (takes l h b j) = record {
-        least = omega (arith, h, least l);
-        small = omega (arith, b, s .top .small);
-        low = top-low (omega (arith, b)) (λ l. omega (arith, h));
-        ends = inl (subst (λ f. AtRow g price dist spot′ (count + 1) m f) (sym j) (record { row = l; settled = now-settled; sum = h }));
+      ends-same : AtEnd exit dist (s .spot) goal end → AtEnd exit dist spot′ goal end
+      ends-same a = record {
+        seen = ⊎-elim (λ z. absurd (omega (arith, same-none end z, a .seen))) (λ h. h) (eq-zero-or-pos (spot′ end));
+        way = a .way;
+        here = a .here;
       }
 
-      pub next : State g x price room dist label order′ root (count + 1) reached (dist w) most′ end′ w
+      pub next : State g x price exit dist label order′ root (count + 1) reached (dist w) goal end w
       next = record {
         spot = spot′;
         list = list′;
         high = omega arith;
         dists = dists′;
-        top = top′ most′ end′ own;
+        top = record { least = omega (arith, nearer); small = s .top .small; ends = ⊎-elim (λ f. inl f) (λ a. inr (ends-same a)) (s .top .ends) };
         newest = p .at;
         here = refl;
         older = λ q l a b.
             let n : tail g x q ≢ w = λ i. omega (arith, ap spot′ i, p .at) in
-            ⊎-elim (λ h. inl h) (λ h. inr (omega (arith, h, fall most′ end′ own))) (scanned-all q l (was-settled (tail g x q) a n));
+            scanned-all q l (was-settled (tail g x q) a n);
       }

@@ -11,7 +11,7 @@ use Rattle.integers.specs.Integer.{up}
 use Rattle.graph.specs.Limits.{mostVertices}
 use Rattle.graph.specs.Graph.{Graph, vertices, firstEnd, secondEnd}
 use Rattle.graph.specs.Subgraph.{markAt, degree}
-use Rattle.tree.specs.Method.{level, value, cost, limit, Good, Labels}
+use Rattle.tree.specs.Method.{level, value, cost, Good, Labels}
 
 -- What a list of naturals, and a list of integers, has at an index, as a natural number.
 abbrev pub entries : List ℕ → ℕ → ℕ
@@ -35,17 +35,20 @@ apart a b = (a - b) + (b - a)
 abbrev pub slack : Graph → (ℕ → ℕ) → ℕ → ℕ
 slack g price e = apart (cost g price e) (value g e)
 
--- The end of the path is vertex v, a row vertex with price 0 or a column vertex that is not saturated. The vertices that the labels reach are ranked, by
--- no more ranks than there can be vertices.
-pub record Ended (g : Graph) (bound : List ℤ) (x : List ℕ) (start price label : ℕ → ℕ) (root v : ℕ) : Type 0 where
+-- The end of the path is vertex v, whose potential is 0 once the potentials have moved: a near vertex that may lose an edge, the root itself, or a far vertex
+-- that may gain one. The vertices that the labels reach are ranked, by no more ranks than there can be vertices.
+pub record Ended (g : Graph) (least most : ℕ → ℕ) (x : List ℕ) (start price label : ℕ → ℕ) (root v : ℕ) : Type 0 where
   pub rank : ℕ → ℕ
   pub few : rank v ≤ mostVertices
-  pub good : Good g bound x price
+  pub good : Good g least most x price
   pub falls : (w : ℕ) → w < g .rows → price w ≤ start w
-  pub root-row : root < g .rows
+  pub root-near : root < g .rows
+  pub root-kept : least root ≤ degree g x root → level ≤ price root
   pub labels : Labels g x label rank root (rank v)
   pub tight : (w : ℕ) → w < vertices g → w ≢ root → 0 < rank w → cost g price (label w) ≡ value g (label w)
   pub inside : v < vertices g
   pub seen : 0 < rank v
-  pub at-row : v < g .rows → price v ≡ level
-  pub at-column : g .rows ≤ v → degree g x v < limit bound v
+  pub zero : price v ≡ level
+  pub at-root : v ≡ root → least root ≤ degree g x root
+  pub at-near : v < g .rows → v ≢ root → least v < degree g x v
+  pub at-far : g .rows ≤ v → degree g x v < most v

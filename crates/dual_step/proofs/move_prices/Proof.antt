@@ -7,10 +7,10 @@ use Rattle.dual_step.proofs.move_prices.Statement.{statement}
 use Rattle.dual_step.proofs.move_prices.Tie as tie
 
 abbrev Inv-loop : tie.InvT-loop
-Inv-loop price₀ rows order distance count most i₀ price i = (i ≤ count) × Moving rows (entries order) (entries distance) price₀ price most i
+Inv-loop price₀ rows order distance count goal i₀ price i = (i ≤ count) × Moving rows (entries order) (entries distance) price₀ price goal i
 
 abbrev μ-loop : tie.MeasureT-loop
-μ-loop price₀ rows order distance count most i₀ price i = count - i
+μ-loop price₀ rows order distance count goal i₀ price i = count - i
 
 loop-holds : tie.Need-loop-holds Inv-loop μ-loop
 loop-holds c = (omega arith, moving-none (c .pre .1))

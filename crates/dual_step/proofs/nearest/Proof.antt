@@ -9,10 +9,10 @@ use Rattle.dual_step.proofs.nearest.Statement.{statement}
 use Rattle.dual_step.proofs.nearest.Tie as tie
 
 abbrev Inv-loop : tie.InvT-loop
-Inv-loop distance order count reached most best₀ place₀ i₀ best place i = (count ≤ i) × Nearest (entries distance) (entries order) count reached most i place best
+Inv-loop distance order count reached goal best₀ place₀ i₀ best place i = (count ≤ i) × Nearest (entries distance) (entries order) count reached goal i place best
 
 abbrev μ-loop : tie.MeasureT-loop
-μ-loop distance order count reached most best₀ place₀ i₀ best place i = reached - i
+μ-loop distance order count reached goal best₀ place₀ i₀ best place i = reached - i
 
 loop-holds : tie.Need-loop-holds Inv-loop μ-loop
 loop-holds c = (omega arith, nearest-none)

@@ -4,6 +4,7 @@ use mathlib.Core.Path.{ap, _∙_}
 use borrow.Author.Tests.{not-true, not-false}
 use Rattle.graph.specs.Graph.{weightInRange}
 use Rattle.layout.specs.Text.{words}
+use Rattle.lines.specs.Found.{part}
 use Rattle.edge_reader.proofs.Lines.{edge-bad, edge-read, edge-back, ends-out, weight-out, edge-in}
 use borrow.Author.Needs.{needs}
 use Rattle.edge_reader.proofs.edge_on.Statement.{statement}
@@ -13,14 +14,14 @@ returns : tie.Need-returns
 returns c =
     let at-edge-words = c .before .before in
     let args = at-edge-words .before .before .args in
-    (edge-bad (args .rules) (args .field) (words (now (args .line))) (at-edge-words .edge-words .ensures) (args .s) (c .enum-told .given .1), tt)
+    (edge-bad (args .rules) (args .field) (words (part (now (args .text)) (args .start) (args .end))) (at-edge-words .edge-words .ensures) (args .s) (c .enum-told .given .1), tt)
 
 returns-2 : tie.Need-returns-2
 returns-2 c =
     let at-row = c .before .before .before in
     let at-edge-words = at-row .before .before in
     let args = at-edge-words .before .before .args in
-    let read = edge-read (args .rules) (args .field) (words (now (args .line))) (at-edge-words .edge-words .ensures) (at-row .row .given .1) in
+    let read = edge-read (args .rules) (args .field) (words (part (now (args .text)) (args .start) (args .end))) (at-edge-words .edge-words .ensures) (at-row .row .given .1) in
     (ends-out (args .s) _ _ _ read (c .before .ends-in-range .ensures) (not-true _ (c .if1 .taken)), tt)
 
 returns-3 : tie.Need-returns-3
@@ -30,8 +31,8 @@ returns-3 c =
     let at-row = at-ends-in-range .before .before in
     let at-edge-words = at-row .before .before in
     let args = at-edge-words .before .before .args in
-    let read = edge-read (args .rules) (args .field) (words (now (args .line))) (at-edge-words .edge-words .ensures) (at-row .row .given .1) in
-    let same = edge-back (args .rules) (args .field) (words (now (args .line))) (at-edge-words .edge-words .ensures) (at-row .row .given .1) in (
+    let read = edge-read (args .rules) (args .field) (words (part (now (args .text)) (args .start) (args .end))) (at-edge-words .edge-words .ensures) (at-row .row .given .1) in
+    let same = edge-back (args .rules) (args .field) (words (part (now (args .text)) (args .start) (args .end))) (at-edge-words .edge-words .ensures) (at-row .row .given .1) in (
       weight-out (args .s) _ _ _ read (at-ends-in-range .ends-in-range .ensures) (not-false _ (at-if1 .if1 .left))
           (c .before .weight-in-range .ensures ∙ ap weightInRange same) (not-true _ (c .if2 .taken)),
       tt,
@@ -44,8 +45,8 @@ returns-4 c =
     let at-row = at-ends-in-range .before .before in
     let at-edge-words = at-row .before .before in
     let args = at-edge-words .before .before .args in
-    let read = edge-read (args .rules) (args .field) (words (now (args .line))) (at-edge-words .edge-words .ensures) (at-row .row .given .1) in
-    let same = edge-back (args .rules) (args .field) (words (now (args .line))) (at-edge-words .edge-words .ensures) (at-row .row .given .1) in
+    let read = edge-read (args .rules) (args .field) (words (part (now (args .text)) (args .start) (args .end))) (at-edge-words .edge-words .ensures) (at-row .row .given .1) in
+    let same = edge-back (args .rules) (args .field) (words (part (now (args .text)) (args .start) (args .end))) (at-edge-words .edge-words .ensures) (at-row .row .given .1) in
     edge-in (args .s) _ _ _ read (at-ends-in-range .ends-in-range .ensures) (not-false _ (at-if1 .if1 .left))
     (c .before .weight-in-range .ensures ∙ ap weightInRange same) (not-false _ (c .if2 .left)) same
 

@@ -5,25 +5,15 @@ use borrow.Author.Needs.{needs}
 use Rattle.edge_reader.proofs.next_coordinate.Statement.{statement}
 use Rattle.edge_reader.proofs.next_coordinate.Tie as tie
 
-sub-edge-on : tie.Need-sub-edge-on
-sub-edge-on c =
-    let later-line = c .before .before .before .later-line in
-    later-found (later-line .ensures) (c .before .start .given .1) .0 .forward
-
-part-edge-on-start : tie.Need-part-edge-on-start
-part-edge-on-start c =
-    let later-line = c .before .before .before .later-line in
-    later-found (later-line .ensures) (c .before .start .given .1) .0 .forward
-
-part-edge-on-end : tie.Need-part-edge-on-end
-part-edge-on-end c =
-    let later-line = c .before .before .before .later-line in
-    later-found (later-line .ensures) (c .before .start .given .1) .0 .ends
+edge-on-requires : tie.Need-edge-on-requires
+edge-on-requires c κs =
+    let found = later-found (c .before .before .before .later-line .ensures) (c .before .start .given .1) .0 in
+    (found .forward, found .ends)
 
 brings-requires : tie.Need-brings-requires
 brings-requires c κs =
-    let args = c .before .before .before .before .before .before .before .args in
-    weight-ranged (args .s) (c .edge-on .result) (c .edge-on .ensures .1)
+    let start = c .before .before .before .before .before .before in
+    weight-ranged (start .args .s) (c .edge-on .result) (c .edge-on .ensures .1)
 
 returns : tie.Need-returns
 returns c =
@@ -39,9 +29,10 @@ returns-2 c =
 
 returns-3 : tie.Need-returns-3
 returns-3 c =
-    let at-start = c .before .before .before .before in
+    let at-start = c .before .before .before in
     let at-later-line = at-start .before .before in
-    let args = at-later-line .before .before .args in
+    let start = at-later-line .before .before in
+    let args = start .args in
     coordinates-line (args .rules) (args .field) (at-later-line .later-line .ensures) (args .s) (at-start .start .given .1)
     (c .before .edge-on .result) (c .before .edge-on .ensures .0) (c .before .edge-on .ensures .1) (c .brings .ensures)
 
@@ -53,10 +44,7 @@ next-coordinate-spec =
     (λ c. search needs)
     (λ c. search needs)
     (λ c. search needs)
-    sub-edge-on
-    part-edge-on-start
-    part-edge-on-end
-    (λ c κs. search needs)
+    edge-on-requires
     brings-requires
     returns
     returns-2

@@ -1,23 +1,17 @@
--- `integers::scale` meets its contract: the product is at most the two bounds multiplied.
-use native.Mathlib.Nat.{mul-le-mul-right, le-trans}
+-- `integers::scale` meets its contract: the product fits.
 use native.Mathlib.Omega.{arith}
 use borrow.Author.Needs.{needs}
 use lib.Dec.{lit<}
 use lib.IntN.{pos, _*ℤ_}
-use Prim.Native.Nat.{_^_, _*_}
 use mir.Syntax.{w64}
 use mir.Val.{SFits}
 use mir.ValLaws.{toZ-ofZ, toZ-pos}
-use Rattle.integers.specs.Integer.{Within}
-use Rattle.integers.proofs.Order.{within-times, fits-within}
+use Rattle.integers.proofs.Order.{fits-within}
 use Rattle.integers.proofs.scale.Statement.{statement}
 use Rattle.integers.proofs.scale.Tie as tie
 
-within : (c : tie.Start) → Within (2 ^ 16 * 2 ^ 40) (pos (c .args .k) *ℤ c .args .x)
-within c = le-trans (within-times (c .args .k) (c .args .x) (c .pre .1)) (mul-le-mul-right (2 ^ 40) (c .pre .0))
-
 fit : (c : tie.Start) → SFits w64 (pos (c .args .k) *ℤ c .args .x)
-fit c = fits-within w64 _ (within c) (lit< tt)
+fit c = fits-within w64 _ (c .pre) (lit< tt)
 
 returns : tie.Need-returns
 returns c = simp (toZ-pos w64 (c .args .k) (omega arith), toZ-ofZ w64 (c .args .x) (c .fits .x), toZ-ofZ w64 _ (fit c))

@@ -4,7 +4,7 @@ use mathlib.Core.Path.{ap, _∙_}
 use lib.IntN.{_-ℤ_}
 use Rattle.integers.specs.Integer.{Within}
 use Rattle.sums.proofs.Machine.{held, held-is, held-within}
-use Rattle.measure.proofs.Tables.{numbers-are}
+use Rattle.measure.proofs.FromTables.{numbers-are}
 use native.Mathlib.Omega.{arith}
 use borrow.Author.Needs.{needs}
 use Rattle.measure.proofs.numbers.Statement.{statement}
@@ -12,8 +12,8 @@ use Rattle.measure.proofs.numbers.Tie as tie
 
 total-of-requires : tie.Need-total-of-requires
 total-of-requires c κs =
-    let p = c .before .pre in
-    ((p .0 .0, p .0 .1, p .0 .2), (p .1 .0, λ k l. p .1 .1 .1 k l .0))
+    let p = c .before .before .before .before .pre in
+    ((p .0 .0, p .0 .1, p .0 .2), (p .1 .0, λ k l. p .1 .1 .sets k l .0))
 
 half-points-requires : tie.Need-half-points-requires
 half-points-requires c κs = let w = c .weight-of in held-within (w .result) (w .ok) (w .ensures .1) (omega arith)

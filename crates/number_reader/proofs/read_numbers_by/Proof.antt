@@ -13,25 +13,25 @@ use Rattle.number_reader.proofs.read_numbers_by.Tie as tie
 read-lines-requires : tie.Need-read-lines-requires
 read-lines-requires c κs =
     let at-check-text = c .before .before .before in
-    let at-both = at-check-text .before in
-    let at-clear-integers = at-both .before .before in
+    let at-count-in-range = at-check-text .before in
+    let at-clear-integers = at-count-in-range .before .before in
     let args = at-clear-integers .before .before .before .args in
     at-clear-integers .clear-integers .ensures
     ∙ ap (λ (k : ℕ). replicate k (pos 0))
     (lent-right (args .rules) (args .what) (args .count) (length (now (args .out))) (now (args .text))
     (ap (λ (k : ℕ). eqb k (args .count))
-    (ap length (at-clear-integers .clear-integers .ensures) ∙ length-replicate (length (now (args .out))) (pos 0))) (at-both .both .ensures) _
+    (ap length (at-clear-integers .clear-integers .ensures) ∙ length-replicate (length (now (args .out))) (pos 0))) (at-count-in-range .count-in-range .ensures) _
     (at-check-text .check-text .ensures) (c .before .enum-told .given .1))
 
 returns : tie.Need-returns
 returns c =
     let at-check-text = c .before .before .before in
-    let at-both = at-check-text .before in
-    let at-clear-integers = at-both .before .before in
+    let at-count-in-range = at-check-text .before in
+    let at-clear-integers = at-count-in-range .before .before in
     let args = at-clear-integers .before .before .before .args in
     whole-lent (args .rules) (args .what) (args .count) (length (now (args .out))) (now (args .text))
     (ap (λ (k : ℕ). eqb k (args .count))
-    (ap length (at-clear-integers .clear-integers .ensures) ∙ length-replicate (length (now (args .out))) (pos 0))) (at-both .both .ensures) _
+    (ap length (at-clear-integers .clear-integers .ensures) ∙ length-replicate (length (now (args .out))) (pos 0))) (at-count-in-range .count-in-range .ensures) _
     (at-check-text .check-text .ensures) (c .before .r .given .1) (at-clear-integers .clear-integers .ensures)
 
 returns-2 : tie.Need-returns-2
@@ -39,12 +39,12 @@ returns-2 c =
     let at-read-lines = c .before .before .before in
     let at-enum-told = at-read-lines .before .before in
     let at-check-text = at-enum-told .before .before in
-    let at-both = at-check-text .before in
-    let at-clear-integers = at-both .before .before in
+    let at-count-in-range = at-check-text .before in
+    let at-clear-integers = at-count-in-range .before .before in
     let args = at-clear-integers .before .before .before .args in
     whole-read (args .rules) (args .what) (args .count) (length (now (args .out))) (now (args .text))
     (ap (λ (k : ℕ). eqb k (args .count))
-    (ap length (at-clear-integers .clear-integers .ensures) ∙ length-replicate (length (now (args .out))) (pos 0))) (at-both .both .ensures) _
+    (ap length (at-clear-integers .clear-integers .ensures) ∙ length-replicate (length (now (args .out))) (pos 0))) (at-count-in-range .count-in-range .ensures) _
     (at-check-text .check-text .ensures) (at-enum-told .enum-told .given .1) (at-read-lines .read-lines .ensures) (c .enum-told2 .given .1)
 
 returns-3 : tie.Need-returns-3
@@ -53,12 +53,12 @@ returns-3 c =
     let at-read-lines = at-r2 .before .before .before in
     let at-enum-told = at-read-lines .before .before in
     let at-check-text = at-enum-told .before .before in
-    let at-both = at-check-text .before in
-    let at-clear-integers = at-both .before .before in
+    let at-count-in-range = at-check-text .before in
+    let at-clear-integers = at-count-in-range .before .before in
     let args = at-clear-integers .before .before .before .args in
     whole-refused (args .rules) (args .what) (args .count) (length (now (args .out))) (now (args .text))
     (ap (λ (k : ℕ). eqb k (args .count))
-    (ap length (at-clear-integers .clear-integers .ensures) ∙ length-replicate (length (now (args .out))) (pos 0))) (at-both .both .ensures) _
+    (ap length (at-clear-integers .clear-integers .ensures) ∙ length-replicate (length (now (args .out))) (pos 0))) (at-count-in-range .count-in-range .ensures) _
     (at-check-text .check-text .ensures) (at-enum-told .enum-told .given .1) (at-read-lines .read-lines .ensures) (at-r2 .r2 .given .1)
     (c .before .clear-integers2 .ensures
     ∙ ap (λ (k : ℕ). replicate k (pos 0))
@@ -70,7 +70,6 @@ read-numbers-by-spec =
     tie.close
     (tie.spec
     (λ c κs. search needs)
-    (λ c. search needs)
     (λ c κs. search needs)
     (λ c κs. search needs)
     (λ c. search needs)

@@ -1,42 +1,48 @@
 -- `search::find_end` meets its contract. The outer loop keeps the search's state, and the inner one which edges of the vertex settled last were looked at.
-use Prim.Native.Nat.{_-_, _≤_, _<_}
-use mathlib.Core.Path.{_≡_, refl}
-use mathlib.Core.Logic.{⊎-elim}
+use Prim.Native.Nat.{ℕ, _-_, _≤_, _<_}
+use mathlib.Core.Path.{_≡_, sym, ap, _∙_}
+use mathlib.Core.Logic.{_≢_, ⊎-elim}
+use mathlib.Core.List.{List}
 use native.Mathlib.Omega.{arith}
 use denote.Ref.{now}
-use lib.ListN.{length}
+use lib.ListN.{length, length-replicate}
 use Rattle.graph.specs.Limits.{mostVertices, mostEdges}
-use Rattle.graph.specs.Graph.{Graph, graphOf, verticesIn}
-use Rattle.graph.specs.Index.{indexOf}
-use Rattle.tree.specs.Method.{level, Solvable, Good}
-use Rattle.tree.specs.Lists.{Kept}
+use Rattle.graph.specs.Graph.{Graph, graphOf, vertices, verticesIn}
+use Rattle.tree.specs.declared.Tree.{Tree}
+use Rattle.tree.specs.Method.{level, Solvable, Good, Rooted}
+use Rattle.tree.specs.Lists.{leasts, mosts, edges, Given}
 use Rattle.tree.specs.Tree.{entries, naturals}
+use Rattle.tree.specs.Front.{far, nearExit, farExit, Exits}
 use Rattle.tree.proofs.Solvable.{few, small, rows-in}
 use Rattle.tree.proofs.Grow.{last-in}
-use Rattle.tree.proofs.Finish.{finish}
-use Rattle.tree.proofs.Places.{start-in}
 use Rattle.scan.specs.Scan.{Scanning}
-use Rattle.scan.proofs.Looking.{roomy, scanned-in}
-use Rattle.search.specs.Search.{Known}
+use Rattle.scan.proofs.Looking.{roomy}
+use Rattle.search.specs.Search.{Known, exitOf}
+use Rattle.search.proofs.Exits as Exits
+use Rattle.search.proofs.Spans.{spanned}
 use Rattle.search.proofs.Growth as Growth
 use Rattle.search.proofs.find_end.Statement.{statement}
 use Rattle.search.proofs.find_end.Tie as tie
 
 abbrev Inv-loop : tie.InvT-loop
-Inv-loop s row column weight bound index edge head worth stop chosen list price room label₀ distance₀ order₀ root f₀ count u d base last k₀ label distance order f k =
-    Growth.RowScan (graphOf s row column weight) chosen (entries price) (entries room) (entries edge) (naturals list) label distance order root count d u f k
+Inv-loop s row column weight arc table chosen list price used order₀ root at exit f₀ distance₀ t₀ count u base last k₀ order f distance t k =
+    Growth.RowScan (graphOf s row column weight) arc table chosen (entries price)
+    (exitOf (s .rows) (entries price) (entries used) (leasts table) (mosts table) root)
+    (naturals list) (t .label) distance order root count f base last k
+    × (t .end ≡ mostVertices)
 
 abbrev μ-loop : tie.MeasureT-loop
-μ-loop s row column weight bound index edge head worth stop chosen list price room label₀ distance₀ order₀ root f₀ count u d base last k₀ label distance order f k =
-    last - k
+μ-loop s row column weight arc table chosen list price used order₀ root at exit f₀ distance₀ t₀ count u base last k₀ order f distance t k = last - k
 
 abbrev Inv-search : tie.InvT-search
-Inv-search s row column weight bound index edge head worth stop chosen list price room label₀ distance₀ order₀ root f₀ count₀ u₀ d₀ label distance order f count u d =
-    Scanning (graphOf s row column weight) chosen (entries price) (entries room) label distance order root count d u f (entries edge) 0 0
+Inv-search s row column weight arc table chosen list price used order₀ root at exit f₀ distance₀ t₀ count₀ order f distance t count =
+    Scanning (graphOf s row column weight) chosen (entries price)
+    (exitOf (s .rows) (entries price) (entries used) (leasts table) (mosts table) root)
+    (t .label) distance order root count f (λ k. k) 0 0
+    × (t .end ≡ mostVertices)
 
 abbrev μ-search : tie.MeasureT-search
-μ-search s row column weight bound index edge head worth stop chosen list price room label₀ distance₀ order₀ root f₀ count₀ u₀ d₀ label distance order f count u d =
-    verticesIn s - count
+μ-search s row column weight arc table chosen list price used order₀ root at exit f₀ distance₀ t₀ count₀ order f distance t count = verticesIn s - count
 
 -- What the function may assume.
 abbrev Start : Type 0
@@ -45,188 +51,263 @@ Start = tie.Start Inv-loop μ-loop Inv-search μ-search
 abbrev graph : Start → Graph
 graph c = graphOf (c .args .s) (now (c .args .row)) (now (c .args .column)) (now (c .args .weight))
 
+abbrev arc : Start → List ℕ
+arc c = now (c .args .arc)
+
+abbrev table : Start → List ℕ
+table c = now (c .args .table)
+
+abbrev price : Start → ℕ → ℕ
+price c = entries (now (c .args .price))
+
+abbrev used : Start → ℕ → ℕ
+used c = entries (now (c .args .used))
+
+abbrev root : Start → ℕ
+root c = entries (now (c .args .order)) 0
+
+given : (c : Start) → Given (graph c) (arc c) (table c) (length (now (c .args .list)))
+given c = c .pre .0
+
 net : (c : Start) → Solvable (graph c)
-net c = c .pre .0
+net c = given c .net
 
-indexed : (c : Start) → now (c .args .index) ≡ indexOf (graph c)
-indexed c = c .pre .1 .0
+known : (c : Start) → Known (graph c) (leasts (table c)) (mosts (table c)) (now (c .args .chosen)) (price c) (used c) (naturals (now (c .args .list)))
+known c = c .pre .1 .0
 
-kept : (c : Start) →
-    let a = c .args in
-    Kept (graph c) (entries (now (a .edge))) (entries (now (a .head))) (entries (now (a .worth))) (entries (now (a .stop))) (a .s .rows)
-kept c = c .pre .1 .1 .0
-
-known : (c : Start) →
-    let a = c .args in
-    Known (graph c) (now (a .bound)) (now (a .chosen)) (entries (now (a .price))) (entries (now (a .room))) (naturals (now (a .list)))
-known c = c .pre .1 .1 .1 .0
-
-good : (c : Start) → Good (graph c) (now (c .args .bound)) (now (c .args .chosen)) (entries (now (c .args .price)))
+good : (c : Start) → Good (graph c) (leasts (table c)) (mosts (table c)) (now (c .args .chosen)) (price c)
 good c = known c .between .good
 
-long : (c : Start) → length (now (c .args .bound)) ≡ verticesIn (c .args .s)
-long c = c .pre .1 .1 .1 .1 .0 .0
+rooted : (c : Start) → Rooted (graph c) (leasts (table c)) (mosts (table c)) (now (c .args .chosen)) (price c) (root c)
+rooted c = c .pre .1 .1 .0
 
-root-low : (c : Start) → c .args .root < mostVertices
-root-low c = omega (arith, c .pre .1 .1 .1 .1 .0 .3, rows-in (net c), few (net c))
+root-in : (c : Start) → root c < verticesIn (c .args .s)
+root-in c = omega (arith, rooted c .near, rows-in (net c))
 
--- A turn of the outer loop: what it keeps, and where the chosen edges of its vertex are listed.
+root-low : (c : Start) → root c < mostVertices
+root-low c = omega (arith, root-in c, few (net c))
+
+-- How far each vertex is from a way out.
+abbrev exit : Start → ℕ → ℕ
+exit c = exitOf (c .args .s .rows) (price c) (used c) (leasts (table c)) (mosts (table c)) (root c)
+
+exits : (c : Start) → Exits (graph c) (leasts (table c)) (mosts (table c)) (now (c .args .chosen)) (price c) (root c) (exit c)
+exits c = Exits.exits (net c) (good c) (known c .between .degrees) (rooted c)
+
+near-exits : (c : Start) → (v : ℕ) → v < c .args .s .rows → v ≢ root c → exit c v ≡ nearExit (price c v) (used c v) (leasts (table c) v)
+near-exits c = Exits.exit-near (c .args .s .rows) (price c) (used c) (leasts (table c)) (mosts (table c)) (root c)
+
+far-exits : (c : Start) → (v : ℕ) → c .args .s .rows ≤ v → exit c v ≡ farExit (price c v) (used c v) (mosts (table c) v)
+far-exits c v l = Exits.exit-far (c .args .s .rows) (price c) (used c) (leasts (table c)) (mosts (table c)) (root c) v l (λ e. omega (arith, e, rooted c .near))
+
+gains : (c : Start) → (v : ℕ) → c .args .s .rows ≤ v → v < vertices (graph c) → used c v < mosts (table c) v → price c v ≤ level
+gains c = Exits.may-gain (net c) (good c) (known c .between .degrees) (rooted c)
+
+-- A turn of the outer loop: what it keeps of the vertex settled last.
 abbrev Turn : Type 0
 Turn = tie.At-search Inv-loop μ-loop Inv-search μ-search
 
 abbrev begun : Turn → Start
-begun c = c .before .before .before .before .before .before
+begun c = c .before .before .before .before .before .before .before .before .before .before
 
-vertex-low : (c : Turn) → c .search .u < mostVertices
-vertex-low c = scanned-in (net (begun c)) (c .search .inv)
+vertex-in : (c : Turn) → c .search .f .vertex < verticesIn (begun c .args .s)
+vertex-in c = last-in (c .search .inv .0 .state)
 
-vertex-in : (c : Turn) → c .search .u < verticesIn (begun c .args .s)
-vertex-in c = last-in (c .search .inv .state)
+-- Its list was scanned.
+abbrev Scanned : Type 0
+Scanned = tie.After-scan-column Inv-loop μ-loop Inv-search μ-search
 
-near : (c : Turn) → c .search .d ≤ level
-near c = Growth.near-level (net (begun c)) (indexed (begun c)) (known (begun c)) (long (begun c)) (c .search .inv)
+abbrev turn : Scanned → Turn
+turn c = c .before .before .before .before .before
+
+same-vertex : (c : Scanned) → c .scan-column .result .vertex < verticesIn (begun (turn c) .args .s)
+same-vertex c = omega (arith, c .scan-column .ensures .1 .0, vertex-in (turn c))
+
+vertex-low : (c : Scanned) → c .scan-column .result .vertex < mostVertices
+vertex-low c = omega (arith, same-vertex c, few (net (begun (turn c))))
 
 -- A turn of the inner loop, which has come to a place of the vertex's edges.
 abbrev Inside : Type 0
 Inside = tie.In-loop Inv-loop μ-loop Inv-search μ-search
 
 abbrev entered : Inside → Start
-entered c = c .before .before .before .before .before .before .before .before .before .before .before .before .before .before .before .before .before .before .before
+entered c = begun (turn (c .before .before .before .before .before .before .before .before .before))
+
+abbrev looped : tie.At-loop Inv-loop μ-loop Inv-search μ-search → Start
+looped c = begun (turn (c .before .before .before .before .before .before .before .before))
 
 place-low : (c : Inside) → c .before .loop .k < mostEdges
 place-low c =
     let start = entered c in
-    Growth.place-low (net start) (known start) (kept start) (c .before .loop .inv) (c .before .before .before .pick .ensures) (c .loop-test .taken)
+    Growth.place-low (given start) (known start) (far-exits start) (gains start) (c .before .loop .inv .0) (c .loop-test .taken)
 
-edge-in : (c : Inside) → entries (now (entered c .args .edge)) (c .before .loop .k) < length (now (entered c .args .chosen))
+edge-in : (c : Inside) → edges (arc (entered c)) (c .before .loop .k) < length (now (entered c .args .chosen))
 edge-in c =
     let start = entered c in
-    Growth.edge-in (net start) (known start) (kept start) (c .before .loop .inv) (c .before .before .before .pick .ensures) (c .loop-test .taken)
+    Growth.edge-in (given start) (known start) (far-exits start) (gains start) (c .before .loop .inv .0) (c .loop-test .taken)
 
 -- Both ways out of the loops.
-abbrev left : tie.Left-loop Inv-loop μ-loop Inv-search μ-search → Start
-left c = c .before .before .before .before .before .before .before .before .before .before .before .before .before .before .before .before .before .before .before
+abbrev Out : Type 0
+Out = tie.Left-loop Inv-loop μ-loop Inv-search μ-search
 
-left-at : (c : tie.Left-loop Inv-loop μ-loop Inv-search μ-search) →
-    let a = left c .args in
+abbrev left : Out → Scanned
+left c = c .before .before .before .before .before .before .before .before .before
+
+left-at : (c : Out) →
+    let start = begun (turn (left c)) in
     let out = c .loop-test in
-    let at = c .before .before .before .before .before .before .before .before .before .before .before .before .before .search in
-    Growth.Left (graph (left c)) (now (a .chosen)) (entries (now (a .price))) (entries (now (a .room))) (out .label) (out .distance) (out .order) (a .root) (at .count)
-    (out .f .most) (out .end)
+    Growth.Left (graph start) (now (start .args .chosen)) (price start) (exit start) (out .t .label) (out .distance) (out .order) (root start)
+    (turn (left c) .search .count) (out .f .goal) (out .end)
+    × (out .t .end ≡ mostVertices)
 left-at c =
-    let start = left c in
-    let r = c .before .loop .inv in
-    let is = c .before .before .before .pick .ensures in
+    let start = begun (turn (left c)) in
+    let inv = c .before .loop .inv in
+    let r = inv .0 in
     ⊎-elim
     (λ w.
-    let turned = Growth.turned (net start) (known start) (kept start) r is (w .0 .taken) refl (w .9 .ensures) in
-    Growth.left-as (w .12) (w .13) (w .14) (w .15) (w .16) (Growth.ends-early turned (w .11 .taken)))
+    let turned = Growth.turned (given start) (known start) (far-exits start) (gains start) r (w .0 .taken) (w .9 .ensures) in
+    (Growth.left-as (w .12) (w .13) (w .14) (w .15) (w .16) (Growth.ends-early turned (w .11 .taken)), ap (λ (z : Tree). z .end) (w .15) ∙ inv .1))
     (λ w.
-    let all = Growth.looked-all (net start) (known start) (kept start) r is (omega (arith, w .0 .left)) in
-    Growth.left-as (w .6) (w .7) (w .8) (w .9) (w .10) (Growth.ends-last (net start) (good start) r (w .3 .ensures) all (w .5 .taken)))
+    let all = Growth.looked-all (given start) (known start) (far-exits start) (gains start) r (rooted start .near) (exits start) (omega (arith, w .0 .left)) in (
+      Growth.left-as (w .6) (w .7) (w .8) (w .9) (w .10) (Growth.ends-last (net start) r (w .3 .ensures) all (w .5 .taken)),
+      ap (λ (z : Tree). z .end) (w .9) ∙ inv .1,
+    ))
     (c .loop-test .came)
 
--- The vertex settled next is one.
-next-low : (c : tie.After-settle Inv-loop μ-loop Inv-search μ-search) → c .settle .result < mostVertices
-next-low c =
-    let at-nearest = c .before .before .before .before in
-    let at-loop = at-nearest .before .before .before .before in
-    let start = at-loop .before .before .before .before .before .before .before .before .before .before .before .before .before .before .before .before .before .before in
-    let t = Growth.next-in (net start) (good start) (at-loop .loop .inv) (at-nearest .nearest .ensures) (c .before .before .if2 .left) (c .settle .ensures) in
-    omega (arith, t, few (net start))
+element-copy-out-root : tie.Need-element-copy-out-root Inv-loop μ-loop Inv-search μ-search
+element-copy-out-root c = omega arith
 
-mul-t32 : tie.Need-mul-t32 Inv-loop μ-loop Inv-search μ-search
-mul-t32 c = omega (arith, root-low (c .before .before .before .before))
+cast-at : tie.Need-cast-at Inv-loop μ-loop Inv-search μ-search
+cast-at c = omega (arith, root-low (c .before .before .before .before))
 
-element-copy-out-t35 : tie.Need-element-copy-out-t35 Inv-loop μ-loop Inv-search μ-search
-element-copy-out-t35 c = omega (arith, root-low (c .before .before .before .before))
+mul-root-exit : tie.Need-mul-root-exit Inv-loop μ-loop Inv-search μ-search
+mul-root-exit c = omega (arith, root-low (c .before .before .before .before))
 
-sub-t36 : tie.Need-sub-t36 Inv-loop μ-loop Inv-search μ-search
-sub-t36 c =
-    let start = c .before .before .before .before .before in
-    good start .least _ (omega (arith, start .pre .1 .1 .1 .1 .0 .3, rows-in (net start)))
+element-copy-out-root-exit : tie.Need-element-copy-out-root-exit Inv-loop μ-loop Inv-search μ-search
+element-copy-out-root-exit c = omega (arith, root-low (c .before .before .before .before))
 
-cast-t37 : tie.Need-cast-t37 Inv-loop μ-loop Inv-search μ-search
-cast-t37 c = omega (arith, root-low (c .before .before .before .before .before))
+mul-root-exit-2 : tie.Need-mul-root-exit-2 Inv-loop μ-loop Inv-search μ-search
+mul-root-exit-2 c = omega (arith, root-low (c .before .before .before .before .before))
+
+element-copy-out-root-exit-2 : tie.Need-element-copy-out-root-exit-2 Inv-loop μ-loop Inv-search μ-search
+element-copy-out-root-exit-2 c = omega (arith, root-low (c .before .before .before .before .before))
+
+add-root-exit : tie.Need-add-root-exit Inv-loop μ-loop Inv-search μ-search
+add-root-exit c = omega (arith, root-low (c .before .before .before .before .before .before))
+
+mul-root-exit-3 : tie.Need-mul-root-exit-3 Inv-loop μ-loop Inv-search μ-search
+mul-root-exit-3 c = omega (arith, root-low (c .before .before .before .before .before .before))
+
+element-copy-out-root-exit-3 : tie.Need-element-copy-out-root-exit-3 Inv-loop μ-loop Inv-search μ-search
+element-copy-out-root-exit-3 c = omega (arith, root-low (c .before .before .before .before .before .before))
+
+root-exit-requires : tie.Need-root-exit-requires Inv-loop μ-loop Inv-search μ-search
+root-exit-requires c κs =
+    let start = c .before .before .before .before .before .before .before in
+    (Exits.root-price (net start) (good start) (known start .between .degrees) (rooted start), omega (arith, good start .high _ (root-in start)))
+
+mul-distance : tie.Need-mul-distance Inv-loop μ-loop Inv-search μ-search
+mul-distance c = omega (arith, root-low (c .before .before .before .before .before .before .before .before))
+
+array-write-distance : tie.Need-array-write-distance Inv-loop μ-loop Inv-search μ-search
+array-write-distance c = omega (arith, root-low (c .before .before .before .before .before .before .before .before))
 
 search-holds : tie.Need-search-holds Inv-loop μ-loop Inv-search μ-search
 search-holds c =
-    let start = c .before .before .before .before .before in
-    Growth.begun (net start) (good start) (start .pre .1 .1 .1 .1 .0 .3) (start .pre .1 .1 .1 .1 .1) (refl, refl, refl)
-
-list-of-requires : tie.Need-list-of-requires Inv-loop μ-loop Inv-search μ-search
-list-of-requires c κs =
-    let start = c .before .before .before .before .before .before in
-    Growth.findable (net start) (indexed start) (known start) (long start) (c .search .inv)
+    let at-root-exit = c .before in
+    let start = at-root-exit .before .before .before .before .before .before .before .before in
+    let goal = at-root-exit .root-exit .ensures in
+    let own = Exits.exit-own (start .args .s .rows) (price start) (used start) (leasts (table start)) (mosts (table start)) (root start) in
+    let made = c .unlabelled .ensures in (
+      Growth.begun (net start) (rooted start .near) (ap length (made .0) ∙ length-replicate {A = ℕ} mostVertices 0) (start .pre .1 .1 .1 .1) (goal .0 ∙ sym own) (goal .1),
+      made .1,
+    )
 
 scan-column-requires : tie.Need-scan-column-requires Inv-loop μ-loop Inv-search μ-search
 scan-column-requires c κs =
-    let turn = c .before .before .before .before .before in
-    let start = c .before .before .before .before .before .before .before .before .before .before .before in
-    let at = c .before .before .before .before .list-of .ensures in
-    let s = turn .search .inv in (
+    let at-search = c .before .before .before .before in
+    let start = begun at-search in
+    let s = at-search .search .inv .0 in (
       net start,
       (
-        (Growth.stop-in (net start) (indexed start) (known start) (long start) s at (start .pre .1 .1 .1 .1 .0 .1), near turn),
-        Growth.column-scan (net start) (indexed start) (known start) (long start) s at,
+        (given start .room, Growth.near-far (given start) (known start) (near-exits start) s, spanned (given start) (known start .between) (vertex-in at-search)),
+        Growth.column-scan (given start) (known start) (near-exits start) s,
       ),
     )
 
+cast-u : tie.Need-cast-u Inv-loop μ-loop Inv-search μ-search
+cast-u c = omega (arith, vertex-low (c .before))
+
 mul-base : tie.Need-mul-base Inv-loop μ-loop Inv-search μ-search
-mul-base c = omega (arith, vertex-low (c .before .before .before .before .before .before))
+mul-base c = omega (arith, vertex-low (c .before))
 
 element-copy-out-base : tie.Need-element-copy-out-base Inv-loop μ-loop Inv-search μ-search
-element-copy-out-base c = omega (arith, vertex-low (c .before .before .before .before .before .before))
+element-copy-out-base c = omega (arith, vertex-low (c .before))
 
 add-base : tie.Need-add-base Inv-loop μ-loop Inv-search μ-search
 add-base c =
-    let turn = c .before .before .before .before .before .before .before in
-    omega (arith, near turn, good (c .before .before .before .before .before .before .before .before .before .before .before .before .before) .most _ (vertex-in turn))
+    let at-scan = c .before .before .before in
+    let at-search = turn at-scan in
+    let start = begun at-search in
+    let s = at-search .search .inv .0 in
+    omega (
+      arith,
+      at-scan .scan-column .ensures .1 .1,
+      Growth.near-far (given start) (known start) (near-exits start) s,
+      good start .high _ (same-vertex at-scan),
+    )
 
 cast-pick : tie.Need-cast-pick Inv-loop μ-loop Inv-search μ-search
-cast-pick c = omega arith
+cast-pick c =
+    let start = c .before .before .before .before .before .before .before .before .before .before .before .before .before .before .before .before .before .before .before in
+    omega (arith, net start .passed .sound .sizes .rows .greatest)
+
+add-pick : tie.Need-add-pick Inv-loop μ-loop Inv-search μ-search
+add-pick c = omega (arith, vertex-low (c .before .before .before .before))
 
 mul-pick : tie.Need-mul-pick Inv-loop μ-loop Inv-search μ-search
-mul-pick c = omega (arith, vertex-low (c .before .before .before .before .before .before .before .before))
+mul-pick c = omega (arith, vertex-low (c .before .before .before .before))
 
 element-copy-out-pick : tie.Need-element-copy-out-pick Inv-loop μ-loop Inv-search μ-search
-element-copy-out-pick c = omega (arith, vertex-low (c .before .before .before .before .before .before .before .before))
-
-pick-requires : tie.Need-pick-requires Inv-loop μ-loop Inv-search μ-search
-pick-requires c κs = tt
+element-copy-out-pick c = omega (arith, vertex-low (c .before .before .before .before))
 
 mul-k : tie.Need-mul-k Inv-loop μ-loop Inv-search μ-search
-mul-k c = omega (arith, vertex-low (c .before .before .before .before .before .before .before .before .before .before))
+mul-k c = omega (arith, vertex-low (c .before .before .before .before .before .before))
 
-shared-slice-read-k : tie.Need-shared-slice-read-k Inv-loop μ-loop Inv-search μ-search
-shared-slice-read-k c =
-    let start = c .before .before .before .before .before .before .before .before .before .before .before .before .before .before .before .before .before in
-    start-in (net start) (indexed start) (omega (arith, vertex-in (c .before .before .before .before .before .before .before .before .before .before .before)))
+element-copy-out-k : tie.Need-element-copy-out-k Inv-loop μ-loop Inv-search μ-search
+element-copy-out-k c = omega (arith, vertex-low (c .before .before .before .before .before .before))
 
 loop-holds : tie.Need-loop-holds Inv-loop μ-loop Inv-search μ-search
 unfolding Growth.column-scan
 loop-holds c =
-    let turn = c .before .before .before .before .before .before .before .before .before .before .before in
-    let start = c .before .before .before .before .before .before .before .before .before .before .before .before .before .before .before .before .before in
-    let at = c .before .before .before .before .before .before .before .before .before .before .list-of .ensures in
-    let s = turn .search .inv in
-    Growth.row-begun (net start) (indexed start) (Growth.listed-at (net start) (indexed start) (known start) (long start) s at)
-    (c .before .before .before .before .before .scan-column .ensures (Growth.column-scan (net start) (indexed start) (known start) (long start) s at))
+    let at-scan = c .before .before .before .before .before .before .before in
+    let at-search = turn at-scan in
+    let start = begun at-search in
+    let inv = at-search .search .inv in
+    let after = at-scan .scan-column .ensures in
+    let s = after .0 (Growth.column-scan (given start) (known start) (near-exits start) (inv .0)) in
+    (Growth.row-begun {v = at-search .search .f .vertex} (given start) (known start) (after .1 .0) s (c .before .pick .ensures), inv .1)
 
-cast-at : tie.Need-cast-at Inv-loop μ-loop Inv-search μ-search
-cast-at c = omega arith
+cast-at-2 : tie.Need-cast-at-2 Inv-loop μ-loop Inv-search μ-search
+cast-at-2 c = omega arith
 
 mul-e : tie.Need-mul-e Inv-loop μ-loop Inv-search μ-search
-mul-e c = omega (arith, place-low c)
+mul-e c = omega (arith, place-low (c))
 
 element-copy-out-e : tie.Need-element-copy-out-e Inv-loop μ-loop Inv-search μ-search
-element-copy-out-e c = omega (arith, place-low c)
+element-copy-out-e c = omega (arith, place-low (c))
+
+add-look : tie.Need-add-look Inv-loop μ-loop Inv-search μ-search
+add-look c = omega (arith, place-low (c .before .before .before .before .before))
 
 mul-look : tie.Need-mul-look Inv-loop μ-loop Inv-search μ-search
 mul-look c = omega (arith, place-low (c .before .before .before .before .before))
 
 element-copy-out-look : tie.Need-element-copy-out-look Inv-loop μ-loop Inv-search μ-search
 element-copy-out-look c = omega (arith, place-low (c .before .before .before .before .before))
+
+add-look-2 : tie.Need-add-look-2 Inv-loop μ-loop Inv-search μ-search
+add-look-2 c = omega (arith, place-low (c .before .before .before .before .before .before))
 
 mul-look-2 : tie.Need-mul-look-2 Inv-loop μ-loop Inv-search μ-search
 mul-look-2 c = omega (arith, place-low (c .before .before .before .before .before .before))
@@ -237,7 +318,7 @@ element-copy-out-look-2 c = omega (arith, place-low (c .before .before .before .
 cast-look : tie.Need-cast-look Inv-loop μ-loop Inv-search μ-search
 cast-look c =
     let inside = c .before .before .before .before .before .before .before in
-    let start = inside .before .before .before .before .before .before .before .before .before .before .before .before .before .before .before .before .before .before .before in
+    let start = entered inside in
     omega (arith, edge-in inside, good start .long, small (net start))
 
 shared-slice-read-look : tie.Need-shared-slice-read-look Inv-loop μ-loop Inv-search μ-search
@@ -246,124 +327,128 @@ shared-slice-read-look c = edge-in (c .before .before .before .before .before .b
 look-requires : tie.Need-look-requires Inv-loop μ-loop Inv-search μ-search
 look-requires c κs =
     let inside = c .before .before .before .before .before .before .before .before in
-    let at-pick = inside .before .before .before in
-    let start = at-pick .before .before .before .before .before .before .before .before .before .before .before .before .before .before .before .before in
-    let r = inside .before .loop .inv in
-    let is = at-pick .pick .ensures in
-    let l = inside .loop-test .taken in (
-      (Growth.head-in (net start) (known start) (kept start) r is l, roomy (net start) (r .scan)),
-      Growth.lookable (net start) (known start) (kept start) r is l refl,
-    )
+    let start = entered inside in
+    let r = inside .before .loop .inv .0 in
+    let l = inside .loop-test .taken in
+    ((Growth.head-in (given start) (known start) (far-exits start) (gains start) r l, roomy (net start) (r .scan)), Growth.lookable (given start) (known start) (far-exits start) (gains start) r l)
 
 add-k : tie.Need-add-k Inv-loop μ-loop Inv-search μ-search
-add-k c = omega (arith, c .before .before .before .before .before .before .before .before .before .before .before .loop-test .taken)
+add-k c = omega (arith, place-low (c .before .before .before .before .before .before .before .before .before .before .before))
 
 loop-less : tie.Need-loop-less Inv-loop μ-loop Inv-search μ-search
 loop-less c = omega (arith, c .before .before .before .before .before .before .before .before .before .before .before .loop-test .taken)
 
 loop-again : tie.Need-loop-again Inv-loop μ-loop Inv-search μ-search
 loop-again c =
-    let inside = c .before .before .before .before .before .before .before .before .before .before .before in
-    let at-pick = inside .before .before .before in
-    let start = at-pick .before .before .before .before .before .before .before .before .before .before .before .before .before .before .before .before in
-    let r = inside .before .loop .inv in
-    Growth.turned (net start) (known start) (kept start) r (at-pick .pick .ensures) (inside .loop-test .taken) refl (c .before .before .look .ensures)
+    let at-look = c .before .before in
+    let inside = at-look .before .before .before .before .before .before .before .before .before in
+    let start = entered inside in
+    let inv = inside .before .loop .inv in
+    (Growth.turned (given start) (known start) (far-exits start) (gains start) (inv .0) (inside .loop-test .taken) (at-look .look .ensures), inv .1)
 
 nearest-requires : tie.Need-nearest-requires Inv-loop μ-loop Inv-search μ-search
 nearest-requires c κs =
-    let start = c .before .before .before .before .before .before .before .before .before .before .before .before .before .before .before .before .before .before .before .before .before in
-    Growth.searchable (net start) (good start) (c .before .before .before .loop .inv)
+    let at-loop = c .before .before .before in
+    let start = looped at-loop in
+    Growth.searchable (net start) (at-loop .loop .inv .0)
 
 settle-requires : tie.Need-settle-requires Inv-loop μ-loop Inv-search μ-search
 settle-requires c κs =
-    let at-nearest = c .before .before .before in
+    let at-if2 = c .before in
+    let at-nearest = at-if2 .before .before in
     let at-loop = at-nearest .before .before .before .before in
-    let start = at-loop .before .before .before .before .before .before .before .before .before .before .before .before .before .before .before .before .before .before in
-    let r = at-loop .loop .inv in
+    let start = looped at-loop in
+    let r = at-loop .loop .inv .0 in
     let n = at-nearest .nearest .ensures in
-    let ne = c .before .if2 .left in
-    (Growth.open-low (net start) (good start) r n ne, Growth.count-low (net start) (good start) r n ne)
+    let ne = at-if2 .if2 .left in
+    (Growth.open-low (net start) r n ne, Growth.count-low (net start) r n ne)
 
 add-count : tie.Need-add-count Inv-loop μ-loop Inv-search μ-search
 add-count c =
-    let at-nearest = c .before .before .before .before in
-    let at-loop = at-nearest .before .before .before .before in
-    let start = at-loop .before .before .before .before .before .before .before .before .before .before .before .before .before .before .before .before .before .before in
-    let r = at-loop .loop .inv in
-    let n = at-nearest .nearest .ensures in
-    let ne = c .before .before .if2 .left in
-    omega (arith, Growth.count-low (net start) (good start) r n ne)
-
-cast-u : tie.Need-cast-u Inv-loop μ-loop Inv-search μ-search
-cast-u c = omega (arith, next-low c)
-
-mul-d : tie.Need-mul-d Inv-loop μ-loop Inv-search μ-search
-mul-d c = omega (arith, next-low c)
-
-element-copy-out-d : tie.Need-element-copy-out-d Inv-loop μ-loop Inv-search μ-search
-element-copy-out-d c = omega (arith, next-low c)
-
-mul-own : tie.Need-mul-own Inv-loop μ-loop Inv-search μ-search
-mul-own c = omega (arith, next-low (c .before))
-
-element-copy-out-own : tie.Need-element-copy-out-own Inv-loop μ-loop Inv-search μ-search
-element-copy-out-own c = omega (arith, next-low (c .before))
-
-own-requires : tie.Need-own-requires Inv-loop μ-loop Inv-search μ-search
-own-requires c κs =
-    let at-if2 = c .before .before .before .before in
+    let at-if2 = c .before .before in
     let at-nearest = at-if2 .before .before in
     let at-loop = at-nearest .before .before .before .before in
-    let start = at-loop .before .before .before .before .before .before .before .before .before .before .before .before .before .before .before .before .before .before in
-    let r = at-loop .loop .inv in
-    let n = at-nearest .nearest .ensures in
-    let ne = at-if2 .if2 .left in
-    let t = c .before .before .settle .ensures in
-    let price = Growth.next-price (net start) (good start) r n ne t in
-    (price .0, price .1, Growth.next-near (net start) (good start) r n ne t)
+    let start = looped at-loop in
+    omega (arith, Growth.count-low (net start) (at-loop .loop .inv .0) (at-nearest .nearest .ensures) (at-if2 .if2 .left))
+
+cast-settled : tie.Need-cast-settled Inv-loop μ-loop Inv-search μ-search
+cast-settled c =
+    let at-if2 = c .before .before in
+    let at-nearest = at-if2 .before .before in
+    let at-loop = at-nearest .before .before .before .before in
+    let start = looped at-loop in
+    omega (arith, few (net start), Growth.next-in (net start) (at-loop .loop .inv .0) (at-nearest .nearest .ensures) (at-if2 .if2 .left) (c .settle .ensures))
+
+mul-settled : tie.Need-mul-settled Inv-loop μ-loop Inv-search μ-search
+mul-settled c =
+    let at-if2 = c .before .before in
+    let at-nearest = at-if2 .before .before in
+    let at-loop = at-nearest .before .before .before .before in
+    let start = looped at-loop in
+    omega (arith, few (net start), Growth.next-in (net start) (at-loop .loop .inv .0) (at-nearest .nearest .ensures) (at-if2 .if2 .left) (c .settle .ensures))
+
+array-read-settled : tie.Need-array-read-settled Inv-loop μ-loop Inv-search μ-search
+array-read-settled c =
+    let at-if2 = c .before .before in
+    let at-nearest = at-if2 .before .before in
+    let at-loop = at-nearest .before .before .before .before in
+    let start = looped at-loop in
+    omega (arith, few (net start), Growth.next-in (net start) (at-loop .loop .inv .0) (at-nearest .nearest .ensures) (at-if2 .if2 .left) (c .settle .ensures))
 
 search-less : tie.Need-search-less Inv-loop μ-loop Inv-search μ-search
 search-less c =
-    let at-if2 = c .before .before .before .before .before in
+    let at-if2 = c .before .before .before in
     let at-nearest = at-if2 .before .before in
     let at-loop = at-nearest .before .before .before .before in
-    let start = at-loop .before .before .before .before .before .before .before .before .before .before .before .before .before .before .before .before .before .before in
-    let r = at-loop .loop .inv in
-    let n = at-nearest .nearest .ensures in
-    let ne = at-if2 .if2 .left in
-    omega (arith, Growth.count-less (net start) (good start) r n ne)
+    let start = looped at-loop in
+    omega (arith, Growth.count-less (net start) (at-loop .loop .inv .0) (at-nearest .nearest .ensures) (at-if2 .if2 .left))
 
 search-again : tie.Need-search-again Inv-loop μ-loop Inv-search μ-search
 search-again c =
-    let at-settle = c .before .before .before in
+    let at-settle = c .before in
     let at-if2 = at-settle .before .before in
     let at-nearest = at-if2 .before .before in
-    let at-test = at-nearest .before .before .before in
-    let at-loop = at-test .before in
-    let at-pick = at-loop .before .before in
-    let start = at-pick .before .before .before .before .before .before .before .before .before .before .before .before .before .before .before .before in
-    let r = at-loop .loop .inv in
-    let n = at-nearest .nearest .ensures in
-    let ne = at-if2 .if2 .left in
-    let all = Growth.looked-all (net start) (known start) (kept start) r (at-pick .pick .ensures) (omega (arith, at-test .loop-test .left)) in
-    Growth.grown (net start) (good start) r n ne (at-settle .settle .ensures) all (c .own .ensures)
-
-move-prices-requires : tie.Need-move-prices-requires Inv-loop μ-loop Inv-search μ-search
-move-prices-requires c κs =
-    let start = c .before .before .before .before .before .before .before .before .before .before .before .before .before .before .before .before .before .before .before .before .before .before in
-    let out = left-at (c .before .before .before) in
-    (Growth.movable (net start) (good start) (out .leaving) (omega arith), start .pre .1 .1 .1 .1 .0 .2)
+    let at-loop-test = at-nearest .before .before .before in
+    let at-loop = at-loop-test .before in
+    let start = looped at-loop in
+    let inv = at-loop .loop .inv in
+    let r = inv .0 in
+    let all = Growth.looked-all (given start) (known start) (far-exits start) (gains start) r (rooted start .near) (exits start) (omega (arith, at-loop-test .loop-test .left)) in
+    let s = Growth.grown (net start) r (at-nearest .nearest .ensures) (at-if2 .if2 .left) (at-settle .settle .ensures) all in
+    (Growth.front-as (c .settled .ensures) s, inv .1)
 
 returns : tie.Need-returns Inv-loop μ-loop Inv-search μ-search
 returns c =
-    let inside = c .before .before .before .before .before in
-    let start = inside .before .before .before .before .before .before .before .before .before .before .before .before .before .before .before .before .before .before .before in
-    let out = left-at inside in
-    let moved = c .before .move-prices .ensures in (
-      finish (net start) (good start) (known start .between .rooms) (start .pre .1 .1 .1 .1 .0 .3) (out .leaving) (moved .0),
-      moved .1,
-      out .label-long,
-      out .order-long,
+    let at-out = c .before .before in
+    let start = begun (turn (left at-out)) in
+    let out = left-at at-out in
+    let arrays = start .pre .1 .1 .1 in (
+      record {
+        found = λ l. absurd (omega (arith, l, out .1));
+        none = λ l. Growth.stuck (net start) (good start) (rooted start .near) (exits start) (out .0 .leaving) (c .if3 .taken);
+      },
+      (arrays .0, out .0 .order-long),
+    )
+
+move-prices-requires : tie.Need-move-prices-requires Inv-loop μ-loop Inv-search μ-search
+move-prices-requires c κs =
+    let at-if3 = c .before .before .before in
+    let at-out = at-if3 .before .before in
+    let start = begun (turn (left at-out)) in
+    let out = left-at at-out in
+    (Growth.movable (net start) (good start) (rooted start .near) (exits start) (out .0 .leaving) (at-if3 .if3 .left), start .pre .1 .1 .1 .0)
+
+returns-2 : tie.Need-returns-2 Inv-loop μ-loop Inv-search μ-search
+returns-2 c =
+    let at-move-prices = c .before in
+    let at-if3 = at-move-prices .before .before .before .before in
+    let at-out = at-if3 .before .before in
+    let start = begun (turn (left at-out)) in
+    let out = left-at at-out in
+    let moved = at-move-prices .move-prices .ensures in
+    let ended = Growth.ended (net start) (good start) (rooted start .near) (exits start) (out .0 .leaving) (at-if3 .if3 .left) (moved .0) in (
+      record { found = λ l. ended; none = λ l. absurd (omega (arith, l, ended .inside, few (net start))) },
+      (moved .1, out .0 .order-long),
     )
 
 pub find-end-spec : {M : Type 1} → statement M
@@ -374,28 +459,40 @@ find-end-spec =
     μ-loop
     Inv-search
     μ-search
-    mul-t32
-    element-copy-out-t35
-    sub-t36
-    cast-t37
+    element-copy-out-root
+    cast-at
+    mul-root-exit
+    element-copy-out-root-exit
+    mul-root-exit-2
+    element-copy-out-root-exit-2
+    add-root-exit
+    mul-root-exit-3
+    element-copy-out-root-exit-3
+    root-exit-requires
+    mul-distance
+    array-write-distance
+    (λ c κs. tt)
     search-holds
-    list-of-requires
     scan-column-requires
+    cast-u
     mul-base
     element-copy-out-base
     add-base
     cast-pick
+    add-pick
     mul-pick
     element-copy-out-pick
-    pick-requires
+    (λ c κs. tt)
     mul-k
-    shared-slice-read-k
+    element-copy-out-k
     loop-holds
-    cast-at
+    cast-at-2
     mul-e
     element-copy-out-e
+    add-look
     mul-look
     element-copy-out-look
+    add-look-2
     mul-look-2
     element-copy-out-look-2
     cast-look
@@ -407,13 +504,12 @@ find-end-spec =
     nearest-requires
     settle-requires
     add-count
-    cast-u
-    mul-d
-    element-copy-out-d
-    mul-own
-    element-copy-out-own
-    own-requires
+    cast-settled
+    mul-settled
+    array-read-settled
+    (λ c κs. tt)
     search-less
     search-again
+    returns
     move-prices-requires
-    returns)
+    returns-2)

@@ -1,124 +1,101 @@
 -- `search::search` meets its contract: the end that is found, the walk back and the count keep all.
-use mathlib.Core.Path.{refl}
-use lib.ListN.{length-set}
-use borrow.Author.Needs.{needs}
+use mathlib.Core.Bool.{true≢false, false≢true}
+use native.Mathlib.Omega.{arith}
+use Rattle.tree.proofs.Solvable.{small}
 use Rattle.tree.proofs.Lists.{reweigh}
-use Rattle.search.proofs.Spans.{findable}
-use Rattle.search.proofs.Path.{first-set, ranked, relistable, countable, walked, found, kept}
+use Rattle.search.proofs.Spans.{spanned}
+use Rattle.search.proofs.Path.{ranked, relistable, countable, walked, found, kept}
+use borrow.Author.Needs.{needs}
 use Rattle.search.proofs.search.Statement.{statement}
 use Rattle.search.proofs.search.Tie as tie
 
-mul-distance : tie.Need-mul-distance
-mul-distance c = search needs
-
-array-write-distance : tie.Need-array-write-distance
-array-write-distance c = search needs
-
-cast-order : tie.Need-cast-order
-cast-order c = search needs
-
-element-write-order : tie.Need-element-write-order
-element-write-order c = search needs
-
 find-end-requires : tie.Need-find-end-requires
 find-end-requires c κs =
+    let start = c .before .before .before .before .before .before .before .before .before in
+    let given = start .pre .0 in
+    let between = start .pre .1 .0 in
+    let rooted = start .pre .1 .1 .0 in
+    let arrays = start .pre .1 .1 .1 in
+    (given, (record { place = _; between = between }, (rooted, (arrays .price-long, arrays .order-long))))
+
+returns : tie.Need-returns
+returns c =
     let start = c .before .before .before .before .before .before .before .before .before .before .before in
-    let pre = start .pre in
-    let net = pre .0 in
-    let between = pre .1 .1 .1 .0 in
-    let arrays = pre .1 .1 .1 .1 .0 in
-    let lengths = pre .1 .1 .1 .1 .1 .0 in
-    let at-root = pre .1 .1 .1 .1 .1 .1 in
-    let first = first-set (start .args .order .now) (start .args .root) (arrays .order-long) in (
-      net,
-      (
-        pre .1 .0,
-        (
-          pre .1 .1 .0,
-          (
-            record { place = _; between = between },
-            (
-              (lengths .0, lengths .1, arrays .price-long, at-root .0),
-              (refl, first, arrays .label-long, simp length-set (arrays .order-long)),
-            ),
-          ),
-        ),
-      ),
+    let arrays = start .pre .1 .1 .1 in
+    let end = c .before .find-end .ensures in (
+      record { found = λ e. absurd (false≢true e); none = λ e. end .0 .none (c .if1 .taken) },
+      record { price-long = end .1 .0; used-long = arrays .used-long; place-long = arrays .place-long; order-long = end .1 .1 },
     )
 
 list-of-requires : tie.Need-list-of-requires
 list-of-requires c κs =
-    let start = c .before .before .before .before .before .before .before .before .before .before .before .before .before in
-    let pre = start .pre in
-    let net = pre .0 in
-    let between = pre .1 .1 .1 .0 in
-    let lengths = pre .1 .1 .1 .1 .1 .0 in
-    let ended = c .before .find-end .ensures .0 in
-    findable net (pre .1 .0) (between .rooms) (ended .inside) (lengths .0)
+    let start = c .before .before .before .before .before .before .before .before .before .before .before .before in
+    let given = start .pre .0 in
+    let between = start .pre .1 .0 in
+    let ended = c .before .before .find-end .ensures .0 .found (c .before .if1 .left) in
+    let span = spanned given between (ended .inside) in
+    record { inside = span .inside; room = λ l. omega (arith, span .room l, small (given .net)) }
 
 augment-requires : tie.Need-augment-requires
 augment-requires c κs =
-    let at-list-of = c .before .before .before .before in
-    let at-find-end = at-list-of .before .before in
-    let start = at-find-end .before .before .before .before .before .before .before .before .before .before .before .before in
-    let pre = start .pre in
-    let net = pre .0 in
-    let between = pre .1 .1 .1 .0 in
-    let arrays = pre .1 .1 .1 .1 .0 in
-    let lengths = pre .1 .1 .1 .1 .1 .0 in
-    let ended = at-find-end .find-end .ensures .0 in
-    (ranked net ended, relistable _ _ net (pre .1 .0) between ended (lengths .1) (arrays .place-long) (at-list-of .list-of .ensures))
+    let at-list-of = c .before .before .before .before .before in
+    let at-if1 = at-list-of .before .before in
+    let at-find-end = at-if1 .before in
+    let start = at-find-end .before .before .before .before .before .before .before .before .before .before in
+    let given = start .pre .0 in
+    let between = start .pre .1 .0 in
+    let arrays = start .pre .1 .1 .1 in
+    let ended = at-find-end .find-end .ensures .0 .found (at-if1 .if1 .left) in
+    (ranked (given .net) ended, relistable _ _ given between ended (arrays .place-long) (at-list-of .list-of .ensures .1))
 
-take-room-requires : tie.Need-take-room-requires
-take-room-requires c κs =
-    let at-find-end = c .before .before .before .before .before .before .before .before .before .before .before in
-    let start = at-find-end .before .before .before .before .before .before .before .before .before .before .before .before in
-    let pre = start .pre in
-    let net = pre .0 in
-    let between = pre .1 .1 .1 .0 in
-    let arrays = pre .1 .1 .1 .1 .0 in
-    let at-root = pre .1 .1 .1 .1 .1 .1 in
-    (countable net between (at-find-end .find-end .ensures .0) (at-root .1), arrays .room-long)
+count-path-requires : tie.Need-count-path-requires
+count-path-requires c κs =
+    let at-if1 = c .before .before .before .before .before .before .before .before .before .before .before .before in
+    let at-find-end = at-if1 .before in
+    let start = at-find-end .before .before .before .before .before .before .before .before .before .before in
+    let given = start .pre .0 in
+    let between = start .pre .1 .0 in
+    let rooted = start .pre .1 .1 .0 in
+    let arrays = start .pre .1 .1 .1 in
+    let ended = at-find-end .find-end .ensures .0 .found (at-if1 .if1 .left) in
+    (countable (given .net) between ended (rooted .room), arrays .used-long)
 
-same-length : tie.Need-same-length
-same-length c = search needs
-
-same-length-2 : tie.Need-same-length-2
-same-length-2 c = search needs
-
-returns : tie.Need-returns
-returns c =
+returns-2 : tie.Need-returns-2
+returns-2 c =
     let at-augment = c .before .before .before .before .before in
-    let at-find-end = at-augment .before .before .before .before .before .before .before in
-    let start = at-find-end .before .before .before .before .before .before .before .before .before .before .before .before in
-    let pre = start .pre in
-    let net = pre .0 in
-    let between = pre .1 .1 .1 .0 in
-    let some = pre .1 .1 .1 .1 .1 .1 .1 in
-    let end = at-find-end .find-end .ensures in
+    let at-if1 = at-augment .before .before .before .before .before .before .before .before in
+    let at-find-end = at-if1 .before in
+    let start = at-find-end .before .before .before .before .before .before .before .before .before .before in
+    let given = start .pre .0 in
+    let between = start .pre .1 .0 in
+    let rooted = start .pre .1 .1 .0 in
+    let ended = at-find-end .find-end .ensures .0 .found (at-if1 .if1 .left) in
+    let net = given .net in
+    let end = at-find-end .find-end .ensures .1 in
     let flipped = at-augment .augment .ensures in
-    let counted = c .take-room .ensures in
-    let path = walked net (end .0) (flipped .0) in
+    let counted = c .count-path .ensures in
+    let path = walked net ended (flipped .0) in
     let lists = reweigh (flipped .1 .0) in (
-      found net between (end .0) some path,
-      (
-        kept net between (end .0) some path (counted .0) lists,
-        record { price-long = end .1; room-long = counted .1; place-long = flipped .1 .1; label-long = end .2; order-long = end .3 },
-      ),
+      record {
+        found = λ e. (found net between ended (rooted .room) path, kept net between ended (rooted .room) path (counted .0) lists);
+        none = λ e. absurd (true≢false e);
+      },
+      record { price-long = end .0; used-long = counted .1; place-long = flipped .1 .1; order-long = end .1 },
     )
 
 pub search-spec : {M : Type 1} → statement M
 search-spec =
     tie.close
     (tie.spec
-    mul-distance
-    array-write-distance
-    cast-order
-    element-write-order
+    (λ c. search needs)
+    (λ c. search needs)
     find-end-requires
+    (λ c. search needs)
+    (λ c. search needs)
+    returns
     list-of-requires
     augment-requires
-    take-room-requires
-    same-length
-    same-length-2
-    returns)
+    count-path-requires
+    (λ c. search needs)
+    (λ c. search needs)
+    returns-2)

@@ -5,7 +5,7 @@ use lib.IntN.{pos}
 use lib.ListN.{getD}
 use Rattle.integers.specs.Integer.{up}
 use Rattle.integers.specs.Sum.{sum}
-use Rattle.dual.specs.Prices.{one}
+use Rattle.dual.specs.Sets.{one}
 use Rattle.sets.specs.Words.{isInside}
 use Rattle.integers.proofs.Loops.{Summed, summed-none, summed-more, summed-all}
 use native.Mathlib.Omega.{arith}

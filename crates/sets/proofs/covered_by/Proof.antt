@@ -4,8 +4,7 @@ use mathlib.Core.Path.{ap, _∙_}
 use mathlib.Core.List.{[]}
 use lib.ListN.{length, getD}
 use Rattle.graph.specs.Graph.{graphOf}
-use Rattle.dual.specs.Prices.{pricesOf, one}
-use Rattle.dual.specs.Sets.{covers}
+use Rattle.dual.specs.Sets.{oddSetsOf, one, covers}
 use Rattle.sets.proofs.Edges.{ends-least, ends-within, covers-at}
 use Rattle.integers.proofs.Loops.{Summed, summed-none, summed-more, summed-all}
 use native.Mathlib.Omega.{arith}
@@ -14,7 +13,7 @@ use Rattle.sets.proofs.covered_by.Tie as tie
 
 abbrev Inv-loop : tie.InvT-loop
 Inv-loop s row column chosen insides markings k total₀ e₀ total e =
-    Summed (s .edges) 1 (λ e. getD chosen e 0 * one (covers (graphOf s row column []) (pricesOf [] [] 0 [] insides markings) k e)) e total
+    Summed (s .edges) 1 (λ e. getD chosen e 0 * one (covers (graphOf s row column []) (oddSetsOf insides markings) k e)) e total
 
 abbrev μ-loop : tie.MeasureT-loop
 μ-loop s row column chosen insides markings k total₀ e₀ total e = length chosen - e

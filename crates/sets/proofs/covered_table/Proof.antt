@@ -4,7 +4,7 @@ use mathlib.Core.Path.{_≡_}
 use mathlib.Core.List.{[]}
 use lib.ListN.{replicate}
 use Rattle.graph.specs.Graph.{graphOf}
-use Rattle.dual.specs.Prices.{pricesOf}
+use Rattle.dual.specs.Sets.{oddSetsOf}
 use Rattle.dual.specs.Gap.{chosenCovered}
 use Rattle.lent.proofs.Setting.{Filling, fill-none, fill-more}
 use native.Mathlib.Omega.{arith}
@@ -13,7 +13,7 @@ use Rattle.sets.proofs.covered_table.Tie as tie
 
 abbrev Inv-loop : tie.InvT-loop
 Inv-loop s row column chosen sets insides markings table₀ count k₀ table k =
-    Filling 0 (λ j x. (x ≡ chosenCovered (graphOf s row column []) chosen (pricesOf [] [] 0 [] insides markings) j) × (x ≤ 1024)) (replicate 16 0)
+    Filling 0 (λ j x. (x ≡ chosenCovered (graphOf s row column []) chosen (oddSetsOf insides markings) j) × (x ≤ 1024)) (replicate 16 0)
     table k
 
 abbrev μ-loop : tie.MeasureT-loop

@@ -1,7 +1,7 @@
 -- The two ends, each as a number.
 use Prim.Native.Nat.{_+_}
 use mathlib.Core.Path.{ap, ap₂, _∙_}
-use Rattle.dual.specs.Prices.{one}
+use Rattle.dual.specs.Sets.{one}
 use borrow.Author.Needs.{needs}
 use Rattle.sets.proofs.ends_inside.Statement.{statement}
 use Rattle.sets.proofs.ends_inside.Tie as tie

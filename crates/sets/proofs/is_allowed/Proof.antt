@@ -5,7 +5,7 @@ use mathlib.Core.Path.{sym, ap, _∙_}
 use lib.ListN.{getD}
 use borrow.Author.Tests.{lt-ltb, le-ltb}
 use Rattle.graph.specs.Graph.{graphOf}
-use Rattle.dual.specs.Prices.{pricesOf}
+use Rattle.dual.specs.Sets.{oddSetsOf}
 use Rattle.sets.specs.Words.{keepsRulesBy}
 use borrow.Author.Needs.{needs}
 use Rattle.sets.proofs.is_allowed.Statement.{statement}
@@ -14,7 +14,7 @@ use Rattle.sets.proofs.is_allowed.Tie as tie
 abbrev keeps : tie.Start → Bool
 keeps c =
     keepsRulesBy (graphOf (c .args .s) (c .args .row .now) (c .args .column .now) [])
-    (pricesOf [] [] 0 [] (c .args .insides .now) (c .args .markings .now)) (c .args .k) (getD (c .args .t4) (c .args .k) 0)
+    (oddSetsOf (c .args .insides .now) (c .args .markings .now)) (c .args .k) (getD (c .args .t4) (c .args .k) 0)
 
 returns : tie.Need-returns
 returns c =

@@ -1,7 +1,7 @@
 -- The vertex's bit stands in one of the set's 2 words.
 use Prim.Native.Nat.{_+_, _*_}
 use mathlib.Core.Path.{_≡_, ap, _∙_}
-use Rattle.dual.specs.Prices.{bit}
+use Rattle.dual.specs.Sets.{bit}
 use native.Mathlib.Omega.{arith}
 use borrow.Author.Needs.{needs}
 use Rattle.sets.proofs.is_inside.Statement.{statement}

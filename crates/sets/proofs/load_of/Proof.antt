@@ -2,7 +2,7 @@
 use Prim.Native.Nat.{_+_, _*_}
 use mathlib.Core.Path.{_≡_, ap, ap₂, _∙_}
 use Rattle.integers.specs.Sum.{sum}
-use Rattle.dual.specs.Prices.{bit, one}
+use Rattle.dual.specs.Sets.{bit, one}
 use native.Mathlib.Omega.{arith}
 use borrow.Author.Needs.{needs}
 use Rattle.sets.proofs.load_of.Statement.{statement}

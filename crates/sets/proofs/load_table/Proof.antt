@@ -4,8 +4,7 @@ use mathlib.Core.Path.{_≡_}
 use mathlib.Core.List.{[]}
 use lib.ListN.{replicate}
 use Rattle.graph.specs.Graph.{graphOf}
-use Rattle.dual.specs.Prices.{pricesOf}
-use Rattle.dual.specs.Sets.{load}
+use Rattle.dual.specs.Sets.{oddSetsOf, load}
 use Rattle.lent.proofs.Setting.{Filling, fill-none, fill-more}
 use native.Mathlib.Omega.{arith}
 use Rattle.sets.proofs.load_table.Statement.{statement}
@@ -13,7 +12,7 @@ use Rattle.sets.proofs.load_table.Tie as tie
 
 abbrev Inv-loop : tie.InvT-loop
 Inv-loop s bound sets insides markings table₀ count k₀ table k =
-    Filling 0 (λ j x. (x ≡ load (graphOf s [] [] []) bound (pricesOf [] [] 0 [] insides markings) j) × (x ≤ 9216)) (replicate 16 0) table k
+    Filling 0 (λ j x. (x ≡ load (graphOf s [] [] []) bound (oddSetsOf insides markings) j) × (x ≤ 9216)) (replicate 16 0) table k
 
 abbrev μ-loop : tie.MeasureT-loop
 μ-loop s bound sets insides markings table₀ count k₀ table k = count - k

@@ -6,7 +6,7 @@ use mathlib.Core.Path.{sym, _∙_}
 use lib.Dec.{ltb}
 use lib.ListN.{getD}
 use Rattle.graph.specs.Graph.{graphOf}
-use Rattle.dual.specs.Prices.{pricesOf}
+use Rattle.dual.specs.Sets.{oddSetsOf}
 use Rattle.checks.proofs.Scan.{Kept, kept-none, kept-more, kept-broken, kept-all}
 use Rattle.sets.specs.Words.{keepsRulesBy}
 use native.Mathlib.Omega.{arith}
@@ -15,7 +15,7 @@ use Rattle.sets.proofs.lowest_set.Tie as tie
 
 abbrev Inv-loop : tie.InvT-loop
 Inv-loop s row column load sets insides markings count k₀ k =
-    Kept (min sets 17) (λ j. ltb j 16 && keepsRulesBy (graphOf s row column []) (pricesOf [] [] 0 [] insides markings) j (getD load j 0)) k
+    Kept (min sets 17) (λ j. ltb j 16 && keepsRulesBy (graphOf s row column []) (oddSetsOf insides markings) j (getD load j 0)) k
 
 abbrev μ-loop : tie.MeasureT-loop
 μ-loop s row column load sets insides markings count k₀ k = count - k

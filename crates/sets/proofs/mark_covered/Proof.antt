@@ -2,7 +2,7 @@
 use Prim.Native.Nat.{_*_}
 use mathlib.Core.Path.{_≡_, sym, ap, _∙_}
 use native.Mathlib.Nat.{zero-mul, one-mul}
-use Rattle.dual.specs.Prices.{one}
+use Rattle.dual.specs.Sets.{one}
 use Rattle.sets.specs.Words.{coversBy}
 use native.Mathlib.Omega.{arith}
 use borrow.Author.Needs.{needs}

@@ -6,8 +6,7 @@ use mathlib.Core.Path.{sym, ap, _∙_}
 use lib.Dec.{eqb}
 use lib.ListN.{length}
 use Rattle.graph.specs.Graph.{graphOf}
-use Rattle.dual.specs.Prices.{pricesOf}
-use Rattle.dual.specs.Sets.{endsInside}
+use Rattle.dual.specs.Sets.{oddSetsOf, endsInside}
 use Rattle.sets.specs.Words.{isMarked}
 use Rattle.sets.proofs.Edges.{ends-least, ends-within, keeps-at}
 use Rattle.checks.proofs.Scan.{Unseen, unseen-none, unseen-more, unseen-seen, unseen-all}
@@ -18,7 +17,7 @@ use Rattle.sets.proofs.one_end_inside.Tie as tie
 abbrev Inv-loop : tie.InvT-loop
 Inv-loop s row column insides markings k e₀ e =
     Unseen (s .edges)
-    (λ e. not (not (isMarked markings k e) || eqb (endsInside (graphOf s row column []) (pricesOf [] [] 0 [] insides markings) k e) 1)) e
+    (λ e. not (not (isMarked markings k e) || eqb (endsInside (graphOf s row column []) (oddSetsOf insides markings) k e) 1)) e
 
 abbrev μ-loop : tie.MeasureT-loop
 μ-loop s row column insides markings k e₀ e = length row - e

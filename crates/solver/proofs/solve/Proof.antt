@@ -31,8 +31,11 @@ returns c =
     let start = at-tested .before .before .before .before .before in
     let says = sym (ap checkSays (c .before .check .given .1)) ∙ at-tested .tested .ensures in (
       ap told says,
-      left-zero (start .args .index .now) (lent start) says (at-clear-bytes .clear-bytes .ensures) (at-clear-integers .clear-integers .ensures)
-          (at-clear-integers2 .clear-integers2 .ensures) (at-clear-integers3 .clear-integers3 .ensures),
+      left-zero (start .args .index .now) (lent start) says (record {
+        marks = at-clear-bytes .clear-bytes .ensures;
+        vertices = at-clear-integers .clear-integers .ensures;
+        edges = at-clear-integers2 .clear-integers2 .ensures;
+      }) (at-clear-integers3 .clear-integers3 .ensures),
     )
 
 optimise-requires : tie.Need-optimise-requires

@@ -4,7 +4,8 @@ use mathlib.Core.Path.{ap, _∙_}
 use lib.ListN.{length, replicate, length-replicate}
 use denote.Ref.{now}
 use Rattle.graph.specs.Graph.{graphOf}
-use Rattle.subgraph_reader.proofs.Tested.{lengths, size, whole-lent, whole-read, whole-refused, any-weights}
+use Rattle.cells.proofs.Cells.{distinct}
+use Rattle.subgraph_reader.proofs.Tested.{passed, size, whole-lent, whole-read, whole-refused, any-weights}
 use borrow.Author.Needs.{needs}
 use Rattle.subgraph_reader.proofs.read_subgraph.Statement.{statement}
 use Rattle.subgraph_reader.proofs.read_subgraph.Tie as tie
@@ -17,10 +18,11 @@ read-lines-requires c κs =
     let enum-told = c .before .enum-told in
     let at-check-inputs = c .before .before .before in
     let at-clear-bytes = at-check-inputs .before .before .before in
-    let args = at-clear-bytes .before .before .before .before .before .before .args in (
-      lengths (graphOf (args .s) (now (args .row)) (now (args .column)) (now (args .weight))) (length (now (args .chosen))) (now (args .text))
-          (ap length (at-clear-bytes .clear-bytes .ensures) ∙ length-replicate (length (now (args .chosen))) 0) _
-          (at-check-inputs .check-inputs .ensures) (enum-told .given .1),
+    let args = at-clear-bytes .before .before .before .before .before .before .args in
+    let P = passed (graphOf (args .s) (now (args .row)) (now (args .column)) (now (args .weight))) (length (now (args .chosen))) (now (args .text))
+    (ap length (at-clear-bytes .clear-bytes .ensures) ∙ length-replicate (length (now (args .chosen))) 0) _
+    (at-check-inputs .check-inputs .ensures) (enum-told .given .1) in (
+      (P .sound, distinct P),
       at-clear-bytes .clear-bytes .ensures
           ∙ ap (λ (k : ℕ). replicate k 0)
           (size (graphOf (args .s) (now (args .row)) (now (args .column)) (now (args .weight))) (length (now (args .chosen))) (now (args .text))

@@ -1,6 +1,5 @@
 -- The bound counts how often the price is taken.
-use Rattle.sums.proofs.Machine.{held-within}
-use Rattle.sums.proofs.Products.{scaled}
+use Rattle.sums.proofs.Products.{scalable, scaled}
 use native.Mathlib.Omega.{arith}
 use borrow.Author.Needs.{needs}
 use Rattle.sums.proofs.bound_price.Statement.{statement}
@@ -8,8 +7,9 @@ use Rattle.sums.proofs.bound_price.Tie as tie
 
 scale-requires : tie.Need-scale-requires
 scale-requires c κs =
+    let b = c .before .bound-of in
     let x = c .element in
-    (omega (arith, c .before .bound-of .ensures .1), held-within (x .result) (x .ok) (x .ensures .1) (omega arith))
+    scalable (x .result) (b .result) (x .ok) (omega (arith, b .ensures .1)) (x .ensures .1)
 
 returns : tie.Need-returns
 returns c =

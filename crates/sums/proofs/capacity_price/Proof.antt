@@ -1,8 +1,7 @@
 -- The capacity counts how often the price is taken.
 use mathlib.Core.Path.{ap}
 use lib.IntN.{pos}
-use Rattle.sums.proofs.Machine.{held-within}
-use Rattle.sums.proofs.Products.{scaled}
+use Rattle.sums.proofs.Products.{scalable, scaled}
 use native.Mathlib.Omega.{arith}
 use borrow.Author.Needs.{needs}
 use Rattle.sums.proofs.capacity_price.Statement.{statement}
@@ -11,8 +10,9 @@ use Rattle.sums.proofs.capacity_price.Tie as tie
 scale-requires : tie.Need-scale-requires
 scale-requires c κs =
     let pre = c .before .before .pre in
+    let k = c .before .capacity in
     let x = c .element in
-    (omega (arith, pre .0, c .before .capacity .ensures), held-within (x .result) (x .ok) (x .ensures .1) (omega arith))
+    scalable (x .result) (k .result) (x .ok) (omega (arith, pre .0, k .ensures)) (x .ensures .1)
 
 returns : tie.Need-returns
 returns c =

@@ -14,17 +14,17 @@ use Rattle.sums.proofs.cover_slack.Statement.{statement}
 use Rattle.sums.proofs.cover_slack.Tie as tie
 
 abbrev Inv-loop : tie.InvT-loop
-Inv-loop edges weight chosen cover m total₀ e₀ total e =
+Inv-loop edges cover weight chosen m total₀ e₀ total e =
     Adding m (λ j. pos (getD chosen j 0) *ℤ (getD cover j (pos 0) -ℤ halfPoints (getD weight j (pos 0)))) e (toZ w64 total)
 
 abbrev μ-loop : tie.MeasureT-loop
-μ-loop edges weight chosen cover m total₀ e₀ total e = m - e
+μ-loop edges cover weight chosen m total₀ e₀ total e = m - e
 
 loop-holds : tie.Need-loop-holds Inv-loop μ-loop
 loop-holds c = summedℤ-none
 
-array-copy-out-excess : tie.Need-array-copy-out-excess Inv-loop μ-loop
-array-copy-out-excess c = omega (arith, c .before .before .before .pre .0 .0)
+element-copy-out-excess : tie.Need-element-copy-out-excess Inv-loop μ-loop
+element-copy-out-excess c = omega (arith, c .before .before .before .pre .0 .0)
 
 excess-requires : tie.Need-excess-requires Inv-loop μ-loop
 excess-requires c κs =
@@ -32,7 +32,7 @@ excess-requires c κs =
     let p = start .pre in
     let e = c .before .before .loop .e in
     let l = c .before .loop-test .taken in (
-      held-within (getD (start .args .t2) e (pos 0)) (c .excess-arg .given) (p .1 e l) (omega arith),
+      held-within (getD (start .args .cover .now) e (pos 0)) (c .excess-arg .given) (p .1 e l) (omega arith),
       (omega (arith, p .0 .1), omega (arith, p .0 .2 .long), p .0 .2 .each e l),
     )
 
@@ -51,7 +51,7 @@ loop-again c =
     let e = at-loop .loop .e in
     let x = c .before .excess in
     let r = c .add in
-    let h = held-is (getD (a .t2) e (pos 0)) (excess-arg .given) in
+    let h = held-is (getD (a .cover .now) e (pos 0)) (excess-arg .given) in
     added (at-loop .loop .inv) (x .result) (r .result) (at-loop-test .loop-test .taken) (x .ok) (r .ok)
     (x .ensures .0 ∙ ap (λ z. pos (getD (a .chosen .now) e 0) *ℤ (z -ℤ halfPoints (getD (a .weight .now) e (pos 0)))) h, x .ensures .1) (r .ensures)
 
@@ -68,7 +68,7 @@ cover-slack-spec =
     μ-loop
     loop-holds
     (λ c. omega arith)
-    array-copy-out-excess
+    element-copy-out-excess
     excess-requires
     add-requires
     (λ c. omega arith)

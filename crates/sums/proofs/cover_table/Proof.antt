@@ -3,7 +3,7 @@ use Prim.Native.Nat.{_-_, _^_, _<_}
 use mathlib.Core.Path.{_≡_}
 use mathlib.Core.List.{[]}
 use lib.IntN.{pos}
-use lib.ListN.{length, replicate}
+use lib.ListN.{length}
 use Rattle.integers.specs.Integer.{Within}
 use Rattle.graph.specs.Graph.{graphOf}
 use Rattle.dual.specs.Prices.{pricesOf}
@@ -21,7 +21,7 @@ abbrev Inv-loop : tie.InvT-loop
 Inv-loop s row column vertex-price edge-price sets set-price insides markings table₀ e₀ table e =
     Filling (pos 0)
     (λ j z. (z ≡ coverOf (graphOf s row column []) (pricesOf vertex-price edge-price sets set-price insides markings) j) × Within (2 ^ 36) z)
-    (replicate 1024 (pos 0)) table e
+    table₀ table e
 
 abbrev μ-loop : tie.MeasureT-loop
 μ-loop s row column vertex-price edge-price sets set-price insides markings table₀ e₀ table e = length row - e
@@ -40,7 +40,7 @@ ends-of-requires c κs = let S = c .before .before .before .before .before .befo
 own-cover-requires : tie.Need-own-cover-requires Inv-loop μ-loop
 own-cover-requires c κs =
     let at-loop = c .before .before .before .before in
-    let start = at-loop .before .before .before .before .before in
+    let start = c .before .before .before .before .before .before .before .before .before in
     let S = start .pre .0 in
     let L = start .pre .1 .0 in
     let l : at-loop .loop .e < start .args .s .edges = omega (arith, S .rowLong) in
@@ -62,23 +62,26 @@ add-requires c κs =
     let y = c .set-cover in
     (held-within (x .result) (x .ok) (x .ensures .1) (omega arith), held-within (y .result) (y .ok) (y .ensures .1) (omega arith))
 
-array-set-from-table : tie.Need-array-set-from-table Inv-loop μ-loop
-array-set-from-table c =
+element-set-from-table : tie.Need-element-set-from-table Inv-loop μ-loop
+element-set-from-table c =
     let pre = c .before .before .before .before .before .before .before .before .before .before .before .before .pre in
     omega (arith, pre .0 .rowLong, pre .0 .sizes .few)
 
 loop-again : tie.Need-loop-again Inv-loop μ-loop
 loop-again c =
     let ends-of = c .before .before .before .ends-of in
-    let a = c .before .before .before .before .before .before .before .before .before .before .before .before .args in
-    let S = c .before .before .before .before .before .before .before .before .before .before .before .before .pre .0 in
-    let L = c .before .before .before .before .before .before .before .loop in
+    let at-loop-test = c .before .before .before .before .before .before in
+    let at-loop = at-loop-test .before in
+    let start = at-loop .before .before .before .before .before in
+    let a = start .args in
+    let S = start .pre .0 in
+    let L = at-loop .loop in
     let x = c .before .before .own-cover in
     let y = c .before .set-cover in
     let r = c .add in
     let P = pricesOf (a .vertex-price .now) (a .edge-price .now) (a .sets) (a .set-price .now) (a .insides .now) (a .markings .now) in
     let w = plus (x .result) (y .result) (r .result) (x .ok) (y .ok) (x .ensures) (y .ensures) (r .ensures) in
-    fill-more (held (r .result)) (L .inv) (omega (arith, L .inv .long, S .rowLong, S .sizes .few))
+    fill-more (held (r .result)) (L .inv) (omega (arith, at-loop-test .loop-test .taken, L .inv .long, start .pre .1 .1 .2, S .rowLong, S .sizes .few))
     (held-both (r .result) (r .ok) (cover-at P (L .e) (ends-of .ensures) (w .0)) (omega (arith, w .1)))
 
 returns : tie.Need-returns Inv-loop μ-loop
@@ -102,7 +105,7 @@ cover-table-spec =
     set-cover-requires
     add-requires
     (λ c. omega arith)
-    array-set-from-table
+    element-set-from-table
     (λ c. omega arith)
     (λ c. omega arith)
     loop-again

@@ -27,8 +27,8 @@ element-requires c κs = omega (arith, c .before .before .pre .1)
 half-points-requires : tie.Need-half-points-requires Inv-loop μ-loop
 half-points-requires c κs = let x = c .element in held-within (x .result) (x .ok) (x .ensures .1) (omega arith)
 
-array-copy-out-at-most : tie.Need-array-copy-out-at-most Inv-loop μ-loop
-array-copy-out-at-most c = omega (arith, c .before .before .before .before .pre .0)
+element-copy-out-at-most : tie.Need-element-copy-out-at-most Inv-loop μ-loop
+element-copy-out-at-most c = omega (arith, c .before .before .before .before .pre .0)
 
 loop-again : tie.Need-loop-again Inv-loop μ-loop
 loop-again c =
@@ -38,7 +38,7 @@ loop-again c =
     let args = at-loop .before .args in
     let x = c .before .before .before .before .element in
     let w = c .before .before .before .half-points in
-    let h = held-is (getD (args .t3) (at-loop .loop .e) (pos 0)) (at-most-arg .given) in
+    let h = held-is (getD (args .cover .now) (at-loop .loop .e) (pos 0)) (at-most-arg .given) in
     kept-more (at-loop .loop .inv) (at-loop-test .loop-test .taken)
     (sym (c .before .at-most .ensures ∙ ap₂ leZ (held-is (w .result) (w .ok) ∙ worth-is (x .result) (w .result) (x .ok) (x .ensures) (w .ensures) .0) h) ∙ c .if1 .taken)
 
@@ -50,7 +50,7 @@ returns c =
     let args = at-loop .before .args in
     let x = c .before .before .before .before .element in
     let w = c .before .before .before .half-points in
-    let h = held-is (getD (args .t3) (at-loop .loop .e) (pos 0)) (at-most-arg .given) in
+    let h = held-is (getD (args .cover .now) (at-loop .loop .e) (pos 0)) (at-most-arg .given) in
     kept-broken (at-loop .loop .inv) (at-loop-test .loop-test .taken)
     (sym (c .before .at-most .ensures ∙ ap₂ leZ (held-is (w .result) (w .ok) ∙ worth-is (x .result) (w .result) (x .ok) (x .ensures) (w .ensures) .0) h) ∙ c .if1 .left)
 
@@ -67,7 +67,7 @@ lowest-uncovered-spec =
     element-requires
     half-points-requires
     (λ c. omega arith)
-    array-copy-out-at-most
+    element-copy-out-at-most
     (λ c κs. tt)
     (λ c. omega arith)
     (λ c. omega arith)

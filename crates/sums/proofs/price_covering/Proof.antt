@@ -3,7 +3,7 @@ use Prim.Native.Nat.{_^_}
 use mathlib.Core.Path.{ap, ap₂, _∙_}
 use lib.IntN.{ℤ, pos, _*ℤ_}
 use Rattle.integers.specs.Integer.{up, dn, Within}
-use Rattle.dual.specs.Prices.{one}
+use Rattle.dual.specs.Sets.{one}
 use Rattle.sums.proofs.Machine.{held-is, held-both}
 use native.Mathlib.Omega.{arith}
 use borrow.Author.Needs.{needs}

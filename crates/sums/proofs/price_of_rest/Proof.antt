@@ -4,8 +4,8 @@ use Prim.Native.Nat.{_^_}
 use lib.IntN.{pos, _*ℤ_}
 use native.Mathlib.Omega.{arith}
 use Rattle.integers.specs.Integer.{Within}
-use Rattle.sums.proofs.Machine.{held, held-within}
-use Rattle.sums.proofs.Products.{scaled, rested}
+use Rattle.sums.proofs.Machine.{held}
+use Rattle.sums.proofs.Products.{scalable, scaled, rested}
 use Rattle.sums.proofs.price_of_rest.Statement.{statement}
 use Rattle.sums.proofs.price_of_rest.Tie as tie
 
@@ -27,12 +27,12 @@ used c =
     (refl, start .pre .2) (c .scale2 .ensures)
 
 scale-requires : tie.Need-scale-requires
-scale-requires c κs = (c .pre .0, held-within (c .args .price) (c .fits .price .sfits) (c .pre .2) (omega arith))
+scale-requires c κs = scalable (c .args .price) (c .args .limit) (c .fits .price .sfits) (c .pre .0) (c .pre .2)
 
 scale-requires-2 : tie.Need-scale-requires-2
 scale-requires-2 c κs =
     let start = c .before in
-    (start .pre .1, held-within (start .args .price) (start .fits .price .sfits) (start .pre .2) (omega arith))
+    scalable (start .args .price) (start .args .used) (start .fits .price .sfits) (start .pre .1) (start .pre .2)
 
 subtract-requires : tie.Need-subtract-requires
 subtract-requires c κs = (omega (arith, allowed (c .before) .1), omega (arith, used c .1))

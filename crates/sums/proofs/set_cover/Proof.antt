@@ -7,7 +7,7 @@ use mir.Syntax.{w64}
 use mir.Val.{toZ}
 use Rattle.integers.specs.Integer.{Within}
 use Rattle.integers.proofs.Loops.{Summedℤ, summedℤ-none, summedℤ-more, summedℤ-all}
-use Rattle.dual.specs.Prices.{one}
+use Rattle.dual.specs.Sets.{one}
 use Rattle.sets.specs.Words.{coversBy}
 use Rattle.sums.proofs.Machine.{held, held-is, held-within}
 use native.Mathlib.Omega.{arith}

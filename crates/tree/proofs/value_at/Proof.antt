@@ -1,5 +1,5 @@
 -- `tree::value_at` meets its contract: two levels above a weight in range is no negative number, and fits.
-use Prim.Native.Nat.{_+_, _*_, _≤_, _<_, _^_}
+use Prim.Native.Nat.{_+_, _≤_, _<_, _^_}
 use mathlib.Core.Path.{_≡_, ap, _∙_}
 use native.Mathlib.Omega.{arith}
 use lib.Dec.{lit<}
@@ -12,18 +12,18 @@ use mir.ValLaws.{toZ-ofZ}
 use Rattle.integers.specs.Integer.{up, dn, Within}
 use Rattle.integers.proofs.Order.{back, fits-within, up-add}
 use Rattle.graph.specs.Limits.{greatestWeight}
-use Rattle.tree.specs.Method.{level}
+use Rattle.tree.specs.Method.{topValue, weightless}
 use borrow.Author.Needs.{needs}
 use Rattle.tree.proofs.value_at.Statement.{statement}
 use Rattle.tree.proofs.value_at.Tie as tie
 
 abbrev twoLevels : ℤ
-twoLevels = pos (2 * level)
+twoLevels = pos (weightless)
 
 fit : (z : ℤ) → Within greatestWeight z → SFits w32 (z +ℤ twoLevels)
-fit z l = fits-within w32 (z +ℤ twoLevels) {n = 3 * level} (go (z +ℤ twoLevels) (up-add z twoLevels)) (lit< tt)
+fit z l = fits-within w32 (z +ℤ twoLevels) {n = topValue} (go (z +ℤ twoLevels) (up-add z twoLevels)) (lit< tt)
   where
-    go : (y : ℤ) → up y + (dn z + 0) ≡ (up z + 2 * level) + dn y → up y + dn y ≤ 3 * level
+    go : (y : ℤ) → up y + (dn z + 0) ≡ (up z + weightless) + dn y → up y + dn y ≤ topValue
     go (pos n) e = omega arith
     go (negsuc n) e = absurd (omega arith)
 
