@@ -1,4 +1,4 @@
-/* The eleven calls of Jangoripu, exported from the static library libjangoripu.a, and a small layer over them at the end of this file.
+/* The calls of Jangoripu, exported from the static library libjangoripu.a, and a small layer over them at the end of this file.
  *
  * A sheet is a graph: fish are its vertices, pairs its edges, merits its weights, limits its bounds; a plan is a subgraph, a group an
  * odd set and a leftover a slack. On a two-sided sheet (a bipartite graph) the dams are the rows and the sires the columns; on a
@@ -102,13 +102,13 @@ enum jangoripu_refusal {
 enum { JANGORIPU_GRAPH_PLACE, JANGORIPU_GRAPH_KIND, JANGORIPU_GRAPH_ROWS, JANGORIPU_GRAPH_COLUMNS, JANGORIPU_GRAPH_EDGES, JANGORIPU_GRAPH_TOLD };
 enum { JANGORIPU_TEXT_PLACE, JANGORIPU_TEXT_BYTES, JANGORIPU_TEXT_TOLD };
 enum {
-    JANGORIPU_MEASURED_WEIGHT,   /* the plan's merit */
-    JANGORIPU_MEASURED_TOTAL,    /* the prices' total */
+    JANGORIPU_MEASURED_WEIGHT,   /* the plan's merit, in points */
+    JANGORIPU_MEASURED_TOTAL,    /* the prices' total, in half points as all that follows */
     JANGORIPU_MEASURED_VERTICES, /* slack (leftover) of vertices (fish) */
     JANGORIPU_MEASURED_SETS,     /* of odd sets (groups) */
     JANGORIPU_MEASURED_EDGES,    /* of edges (pairs) */
     JANGORIPU_MEASURED_COVER,    /* of cover */
-    JANGORIPU_MEASURED_GAP,      /* total minus weight, which is the four slacks added up */
+    JANGORIPU_MEASURED_GAP,      /* total minus twice the weight, which is the slacks added up */
     JANGORIPU_MEASURED_TOLD
 };
 
@@ -195,8 +195,10 @@ uint32_t jangoripu_measure(bool general, uint32_t rows, uint32_t columns, uint32
                            const uint64_t *set_edges, size_t set_edges_len, int64_t numbers[7], uint64_t *place);
 
 /* ---- A layer over the calls: a sheet by its pointers. The lengths follow from the sheet, so they cannot be wrong. A pointer may be
- * null where its length is 0; where it is not, a null pointer of a sheet, of marks or of prices counts as a wrong length (9). Each
- * function returns what its call returns; place may be null. */
+ * null where its length is 0; where it is not, a null pointer of a sheet, of marks or of prices counts as a wrong length (9), and so does
+ * one of an output or a workspace; a null text counts as an empty one. Each function returns what its call returns, and clears its outputs
+ * after a refusal as the call does, in the lengths that follow from the sheet. place may be null; the pointers to a sheet, to prices, to
+ * measures and to a text's length may not. */
 
 /* A sheet: its kind and sizes, and what its arrays hold. bound may be null where no limits are asked for; index may be null, and the
  * solver then has one built. */
@@ -233,7 +235,8 @@ static inline size_t jangoripu_index_length(const jangoripu_sheet *s) {
     return jangoripu_vertices(s) + 1 + 2 * (size_t)s->edges;
 }
 
-/* A pointer that is not null, to be read or to be written; the place that is told, if it is asked for; and a text's length with it. */
+/* A pointer that is not null, to be read or to be written; whether so many numbers are lent; the place that is told, if it is asked for;
+ * and a text's length with it. */
 static inline const void *jangoripu_some(const void *pointer) {
     static const uint64_t nothing = 0;
     return pointer != NULL ? pointer : (const void *)&nothing;
@@ -242,6 +245,10 @@ static inline const void *jangoripu_some(const void *pointer) {
 static inline void *jangoripu_room(void *pointer) {
     static uint64_t nothing;
     return pointer != NULL ? pointer : (void *)&nothing;
+}
+
+static inline bool jangoripu_lent(const void *pointer, size_t length) {
+    return pointer != NULL || length == 0;
 }
 
 static inline uint32_t jangoripu_told(uint32_t refusal, uint64_t at, uint64_t *place) {
@@ -280,8 +287,9 @@ static inline void jangoripu_sheet_told(jangoripu_sheet *s, const uint64_t told[
 static inline uint32_t jangoripu_sheet_read(jangoripu_sheet *s, const void *text, size_t length, uint32_t *row, uint32_t *column,
                                             int32_t *weight, uint64_t *place) {
     uint64_t told[JANGORIPU_GRAPH_TOLD];
-    uint32_t refusal = jangoripu_read_graph((const uint8_t *)jangoripu_some(text), length, row, JANGORIPU_MOST_EDGES, column,
-                                            JANGORIPU_MOST_EDGES, weight, JANGORIPU_MOST_EDGES, told);
+    uint32_t refusal = jangoripu_read_graph(JANGORIPU_READ(uint8_t, text, length), JANGORIPU_WRITTEN(uint32_t, row, JANGORIPU_MOST_EDGES),
+                                            JANGORIPU_WRITTEN(uint32_t, column, JANGORIPU_MOST_EDGES),
+                                            JANGORIPU_WRITTEN(int32_t, weight, JANGORIPU_MOST_EDGES), told);
     jangoripu_sheet_told(s, told, row, column, weight);
     return jangoripu_told(refusal, told[JANGORIPU_GRAPH_PLACE], place);
 }
@@ -290,41 +298,52 @@ static inline uint32_t jangoripu_sheet_read(jangoripu_sheet *s, const void *text
 static inline uint32_t jangoripu_assignment_read(jangoripu_sheet *s, const void *text, size_t length, uint32_t *row, uint32_t *column,
                                                  int32_t *weight, int32_t *bound, uint64_t *place) {
     uint64_t told[JANGORIPU_GRAPH_TOLD];
-    uint32_t refusal = jangoripu_read_assignment((const uint8_t *)jangoripu_some(text), length, row, JANGORIPU_MOST_EDGES, column,
-                                                 JANGORIPU_MOST_EDGES, weight, JANGORIPU_MOST_EDGES, bound,
-                                                 JANGORIPU_ASSIGNMENT_BOUNDS, told);
+    uint32_t refusal = jangoripu_read_assignment(JANGORIPU_READ(uint8_t, text, length),
+                                                 JANGORIPU_WRITTEN(uint32_t, row, JANGORIPU_MOST_EDGES),
+                                                 JANGORIPU_WRITTEN(uint32_t, column, JANGORIPU_MOST_EDGES),
+                                                 JANGORIPU_WRITTEN(int32_t, weight, JANGORIPU_MOST_EDGES),
+                                                 JANGORIPU_WRITTEN(int32_t, bound, JANGORIPU_ASSIGNMENT_BOUNDS), told);
     jangoripu_sheet_told(s, told, row, column, weight);
     s->bound = bound;
     return jangoripu_told(refusal, told[JANGORIPU_GRAPH_PLACE], place);
 }
 
-/* Reads the sheet's limits into an array of at least as many numbers as it has vertices (128 always do), and points s at them. */
-static inline uint32_t jangoripu_limits_read(jangoripu_sheet *s, const void *text, size_t length, int32_t *bound, uint64_t *place) {
+/* Reads limits or prices. A count that 32 bits do not hold is refused as any other out of range (4): the call, which is passed another,
+ * refuses the length and clears the array. */
+static inline uint32_t jangoripu_numbers_read(const void *text, size_t length, bool prices, size_t count, int32_t *out, uint64_t *place) {
+    bool held = count <= UINT32_MAX;
     uint64_t at;
-    size_t n = jangoripu_vertices(s);
-    uint32_t refusal = jangoripu_read_numbers((const uint8_t *)jangoripu_some(text), length, false, (uint32_t)n, bound, n, &at);
-    s->bound = bound;
+    uint32_t refusal = jangoripu_read_numbers(JANGORIPU_READ(uint8_t, text, length), prices, held ? (uint32_t)count : UINT32_MAX,
+                                              JANGORIPU_WRITTEN(int32_t, out, count), &at);
+    if (!held && out != NULL)
+        refusal = JANGORIPU_SIZES;
     return jangoripu_told(refusal, at, place);
 }
 
-/* Reads a price sheet without groups: price gets the vertices' prices and then the edges', and p points at them. */
+/* Reads the sheet's limits into an array of at least as many numbers as it has vertices (128 do if its sizes are in range), and points s
+ * at them. */
+static inline uint32_t jangoripu_limits_read(jangoripu_sheet *s, const void *text, size_t length, int32_t *bound, uint64_t *place) {
+    s->bound = bound;
+    return jangoripu_numbers_read(text, length, false, jangoripu_vertices(s), bound, place);
+}
+
+/* Reads a price sheet without groups: price gets the vertices' prices and then the edges' (1,152 numbers do if the sheet's sizes are in
+ * range), and p points at them. */
 static inline uint32_t jangoripu_prices_read(const jangoripu_sheet *s, const void *text, size_t length, int32_t *price, jangoripu_prices *p,
                                              uint64_t *place) {
-    uint64_t at;
-    size_t n = jangoripu_vertices(s), count = n + s->edges;
-    uint32_t refusal = jangoripu_read_numbers((const uint8_t *)jangoripu_some(text), length, true, (uint32_t)count, price, count, &at);
+    size_t n = jangoripu_vertices(s);
     p->vertex = price;
-    p->edge = price + n;
+    p->edge = price != NULL ? price + n : NULL;
     p->sets = 0;
     p->set = NULL;
     p->set_vertices = p->set_edges = NULL;
-    return jangoripu_told(refusal, at, place);
+    return jangoripu_numbers_read(text, length, true, n + s->edges, price, place);
 }
 
 /* Reads a plan of the sheet; chosen has room for a mark for each edge. */
 static inline uint32_t jangoripu_plan_read(const jangoripu_sheet *s, const void *text, size_t length, uint8_t *chosen, uint64_t *place) {
     uint64_t at;
-    uint32_t refusal = jangoripu_read_subgraph((const uint8_t *)jangoripu_some(text), length, JANGORIPU_NUMBERS(s),
+    uint32_t refusal = jangoripu_read_subgraph(JANGORIPU_READ(uint8_t, text, length), JANGORIPU_NUMBERS(s),
                                                JANGORIPU_WRITTEN(uint8_t, chosen, s->edges), &at);
     return jangoripu_told(refusal, at, place);
 }
@@ -332,15 +351,15 @@ static inline uint32_t jangoripu_plan_read(const jangoripu_sheet *s, const void 
 /* Writes a plan of the sheet; out has 16,384 bytes, and *length is how many of them the text has. */
 static inline uint32_t jangoripu_plan_write(const jangoripu_sheet *s, const uint8_t *chosen, uint8_t *out, size_t *length, uint64_t *place) {
     uint64_t told[JANGORIPU_TEXT_TOLD];
-    uint32_t refusal = jangoripu_write_subgraph(JANGORIPU_NUMBERS(s), JANGORIPU_READ(uint8_t, chosen, s->edges), out,
-                                                JANGORIPU_SUBGRAPH_BYTES, told);
+    uint32_t refusal = jangoripu_write_subgraph(JANGORIPU_NUMBERS(s), JANGORIPU_READ(uint8_t, chosen, s->edges),
+                                                JANGORIPU_WRITTEN(uint8_t, out, JANGORIPU_SUBGRAPH_BYTES), told);
     return jangoripu_written(refusal, told, length, place);
 }
 
 /* Writes the sheet in its tidy form; out has 32,768 bytes, and *length is how many of them the text has. */
 static inline uint32_t jangoripu_sheet_tidy(const jangoripu_sheet *s, uint8_t *out, size_t *length, uint64_t *place) {
     uint64_t told[JANGORIPU_TEXT_TOLD];
-    uint32_t refusal = jangoripu_tidy_graph(JANGORIPU_NUMBERS(s), out, JANGORIPU_GRAPH_BYTES, told);
+    uint32_t refusal = jangoripu_tidy_graph(JANGORIPU_NUMBERS(s), JANGORIPU_WRITTEN(uint8_t, out, JANGORIPU_GRAPH_BYTES), told);
     return jangoripu_written(refusal, told, length, place);
 }
 
@@ -348,12 +367,13 @@ static inline uint32_t jangoripu_sheet_tidy(const jangoripu_sheet *s, uint8_t *o
  * has. */
 static inline uint32_t jangoripu_assignment_write(const jangoripu_sheet *s, uint8_t *out, size_t *length, uint64_t *place) {
     uint64_t told[JANGORIPU_TEXT_TOLD];
-    uint32_t refusal = jangoripu_write_assignment(JANGORIPU_NUMBERS(s), JANGORIPU_READ(int32_t, s->bound, jangoripu_vertices(s)), out,
-                                                  JANGORIPU_GRAPH_BYTES, told);
+    uint32_t refusal = jangoripu_write_assignment(JANGORIPU_NUMBERS(s), JANGORIPU_READ(int32_t, s->bound, jangoripu_vertices(s)),
+                                                  JANGORIPU_WRITTEN(uint8_t, out, JANGORIPU_GRAPH_BYTES), told);
     return jangoripu_written(refusal, told, length, place);
 }
 
-/* Builds the sheet's index into an array of at least as many numbers as it has (2,177 always do), and points s at it. */
+/* Builds the sheet's index into an array of at least as many numbers as it has (2,177 do if the sheet's sizes are in range), and points s
+ * at it. */
 static inline uint32_t jangoripu_index_build(jangoripu_sheet *s, uint32_t *index, uint64_t *place) {
     uint64_t at;
     uint32_t refusal = jangoripu_build_index(JANGORIPU_NUMBERS(s), JANGORIPU_WRITTEN(uint32_t, index, jangoripu_index_length(s)), &at);
@@ -369,22 +389,26 @@ static inline uint32_t jangoripu_index_test(const jangoripu_sheet *s, uint64_t *
 }
 
 /* Solves the sheet: a plan of largest merit, and prices of its vertices and edges, in half points, that prove it; workspace has 4,096
- * numbers. Where s points at no index, one is built for this call on the stack, in 8,708 bytes. */
+ * numbers. Where s points at no index, one is built for this call on the stack, in 8,708 bytes; a sheet whose index would be longer than
+ * that is out of range, and is refused as if its index were lent: 9 if a pointer is null that may not be, and else 4. */
 static inline uint32_t jangoripu_sheet_solve(const jangoripu_sheet *s, uint8_t *chosen, int32_t *vertex_price, int32_t *edge_price,
                                              int32_t *workspace, uint64_t *place) {
     uint32_t own[JANGORIPU_LONGEST_INDEX], refusal;
     const uint32_t *index = s->index;
     uint64_t at;
-    size_t n = jangoripu_vertices(s), length = jangoripu_index_length(s);
+    size_t n = jangoripu_vertices(s), m = s->edges, length = jangoripu_index_length(s);
     if (index == NULL && length <= JANGORIPU_LONGEST_INDEX) {
         jangoripu_build_index(JANGORIPU_NUMBERS(s), own, length, &at); /* what this refuses, the solver refuses too */
         index = own;
     }
     refusal = jangoripu_solve(JANGORIPU_NUMBERS(s), JANGORIPU_READ(int32_t, s->bound, n), JANGORIPU_READ(uint32_t, index, length),
-                              JANGORIPU_WRITTEN(uint8_t, chosen, s->edges), JANGORIPU_WRITTEN(int32_t, vertex_price, n),
-                              JANGORIPU_WRITTEN(int32_t, edge_price, s->edges), workspace, JANGORIPU_WORKSPACE_NUMBERS, &at);
-    if (index == NULL && s->bound != NULL)
-        refusal = JANGORIPU_SIZES; /* the index would be longer than that of any sheet in range */
+                              JANGORIPU_WRITTEN(uint8_t, chosen, m), JANGORIPU_WRITTEN(int32_t, vertex_price, n),
+                              JANGORIPU_WRITTEN(int32_t, edge_price, m),
+                              JANGORIPU_WRITTEN(int32_t, workspace, JANGORIPU_WORKSPACE_NUMBERS), &at);
+    if (index == NULL && jangoripu_lent(s->row, m) && jangoripu_lent(s->column, m) && jangoripu_lent(s->weight, m) &&
+        jangoripu_lent(s->bound, n) && jangoripu_lent(chosen, m) && jangoripu_lent(vertex_price, n) && jangoripu_lent(edge_price, m) &&
+        jangoripu_lent(workspace, JANGORIPU_WORKSPACE_NUMBERS))
+        refusal = JANGORIPU_SIZES; /* the index is all that was refused above, with 9 at place 0 */
     return jangoripu_told(refusal, at, place);
 }
 

@@ -11,9 +11,9 @@ use lib.IntN.{ℤ}
 use lib.ListN.{length, getD, set, length-set}
 use lib.Seq.{getD-set-same, getD-set-other}
 use Rattle.graph.specs.Limits.{mostEdges}
-use Rattle.tree.specs.Method.{weightless}
-use Rattle.tree.specs.Lists.{leasts, edges, heads, values, mostArcs}
-use Rattle.arcs.specs.Arcs.{valueIn, headIn, keepsIn, edgeIn, Keepable, ArcStored, Entry, KeptRow, SameArcs}
+use Rattle.method.specs.Method.{weightless}
+use Rattle.method.specs.Lists.{leasts, edges, heads, values, mostArcs}
+use Rattle.arcs.specs.Arcs.{valueIn, headIn, keepsIn, edgeIn, Keepable, ArcStored, ArcEntry, KeptRow, SameArcs}
 
 -- Three numbers set in the three parts of a list are stored.
 module _ (old : List ℕ) (k e h w : ℕ) (long : length old ≡ mostArcs) (low : k < mostEdges) where
@@ -75,8 +75,8 @@ same-stored l m same s = record {
 
 -- An entry stays where the three lists stay.
 still : {rows : ℕ} {column : List ℕ} {weight : List ℤ} {edgeAt : ℕ → ℕ} {from to j : ℕ} {arc arc′ : List ℕ} →
-    Entry rows column weight edgeAt from to arc j → edges arc′ j ≡ edges arc j → heads arc′ j ≡ heads arc j →
-    values arc′ j ≡ values arc j → Entry rows column weight edgeAt from (to + 1) arc′ j
+    ArcEntry rows column weight edgeAt from to arc j → edges arc′ j ≡ edges arc j → heads arc′ j ≡ heads arc j →
+    values arc′ j ≡ values arc j → ArcEntry rows column weight edgeAt from (to + 1) arc′ j
 still {rows} {column} {weight} n i j k = record {
   place = n .place;
   low = n .low;
@@ -95,13 +95,13 @@ module _ {rows : ℕ} {column : List ℕ} {weight : List ℤ} {keep : ℕ → Bo
   module _ {i k e : ℕ} {arc arc′ : List ℕ} (K : KeptRow rows column weight keep edgeAt from i arc k) (at : e ≡ edgeAt i) (few : k < mostEdges)
       (s : ArcStored k e (headIn rows column e) (valueIn weight e) arc arc′) where
     -- What is kept before stays, and e is kept if it is to be.
-    before : (j : ℕ) → from ≤ j → j < k → Entry rows column weight edgeAt from (i + 1) arc′ j
+    before : (j : ℕ) → from ≤ j → j < k → ArcEntry rows column weight edgeAt from (i + 1) arc′ j
     before j a b =
         let l : j < mostEdges = omega (arith, few) in
         let n : j ≡ k → ⊥ = λ s. omega (arith, s) in
         still (K .each j a b) (s .edge-other j l n) (s .head-other j l n) (s .value-other j l n)
 
-    here : Entry rows column weight edgeAt from (i + 1) arc′ k
+    here : ArcEntry rows column weight edgeAt from (i + 1) arc′ k
     here = record {
       place = i;
       low = omega (arith, K .low, K .high);

@@ -14,14 +14,14 @@ use Rattle.graph.specs.Limits.{mostVertices}
 use Rattle.graph.specs.Graph.{Graph, vertices, columnVertex, columnAt, firstEnd, secondEnd}
 use Rattle.graph.specs.Index.{offset, indexOf}
 use Rattle.graph.proofs.Index.{seen, is-end-first, offset-more}
-use Rattle.tree.specs.Method.{Solvable}
-use Rattle.tree.specs.Lists.{starts, stops, leasts, mostTable, edges, heads, values, keeps, Arc, Kept, startIn, Given}
-use Rattle.tree.proofs.Solvable.{few, small, rows-in, root-in, second-to, weight-within}
-use Rattle.tree.proofs.Places.{At, start, place-in, some, at, stands, end-first, offset-rows}
-use Rattle.arcs.specs.Arcs.{headIn, keepsIn, edgeIn, Readable, Entry, KeptRow, SameArcs, SameBounds, ListsBegun}
+use Rattle.method.specs.Method.{Solvable}
+use Rattle.method.specs.Lists.{starts, stops, leasts, mostTable, edges, heads, values, keeps, Arc, Kept, startIn, Given}
+use Rattle.method.proofs.Solvable.{few, small, rows-in, root-in, second-to, weight-within}
+use Rattle.method.proofs.Places.{At, start, place-in, some, at, stands, end-first, offset-rows}
+use Rattle.arcs.specs.Arcs.{headIn, keepsIn, edgeIn, Readable, ArcEntry, KeptRow, SameArcs, SameBounds, ListsBegun}
 
 -- No row vertex is listed yet.
-pub kept-none : {g : Graph} {keep : ℕ → Bool} {start stop edge head worth : ℕ → ℕ} → Kept g keep start stop edge head worth 0
+pub kept-none : {g : Graph} {keep : ℕ → Bool} {start stop edge head raised : ℕ → ℕ} → Kept g keep start stop edge head raised 0
 kept-none = record {
   starts = λ r b. absurd (omega arith);
   stops = λ r b. absurd (omega arith);
@@ -108,7 +108,7 @@ module _ {g : Graph} {index : List ℕ} (net : Solvable g) (is : index ≡ index
   rises = omega (arith, from, to, offset-more g r (r + 1) (omega arith))
 
   -- What is kept at a place of row vertex r is an edge of r.
-  arc-at : {arc : List ℕ} {k : ℕ} → Entry (g .rows) (g .column) (g .weight) (edgeIn index (vertices g)) (getD index r 0) (getD index (r + 1) 0) arc k →
+  arc-at : {arc : List ℕ} {k : ℕ} → ArcEntry (g .rows) (g .column) (g .weight) (edgeIn index (vertices g)) (getD index r 0) (getD index (r + 1) 0) arc k →
       Arc g r (edges arc k) (heads arc k) (values arc k)
   arc-at {arc} {k} n =
       let t = here (n .low) (n .high) in
@@ -179,8 +179,8 @@ module _ {g : Graph} {index : List ℕ} (net : Solvable g) (is : index ≡ index
       rw (second-is e, same .each (2 * mostVertices + r) (omega arith), same .each (2 * mostVertices + secondEnd g e) (omega arith), sym i) y
 
 -- After the last row vertex.
-pub kept-end : {g : Graph} {keep : ℕ → Bool} {start stop edge head worth : ℕ → ℕ} {t m : ℕ} → Kept g keep start stop edge head worth t → m ≤ t →
-    Kept g keep start stop edge head worth m
+pub kept-end : {g : Graph} {keep : ℕ → Bool} {start stop edge head raised : ℕ → ℕ} {t m : ℕ} → Kept g keep start stop edge head raised t → m ≤ t →
+    Kept g keep start stop edge head raised m
 kept-end K l = record {
   starts = λ r b. K .starts r (omega arith);
   stops = λ r b. K .stops r (omega arith);

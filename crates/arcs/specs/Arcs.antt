@@ -9,10 +9,10 @@ use lib.IntN.{ℤ, pos, _+ℤ_}
 use lib.ListN.{length, getD}
 use Rattle.integers.specs.Integer.{up, Within}
 use Rattle.graph.specs.Limits.{mostVertices, mostEdges, greatestWeight}
-use Rattle.graph.specs.Graph.{Graph, vertices}
-use Rattle.tree.specs.Method.{weightless}
-use Rattle.tree.specs.Tree.{entries}
-use Rattle.tree.specs.Lists.{leasts, mostTable, edges, heads, values, startIn}
+use Rattle.graph.specs.Graph.{Graph}
+use Rattle.method.specs.Method.{weightless}
+use Rattle.method.specs.Tree.{entries}
+use Rattle.method.specs.Lists.{leasts, mostTable, edges, heads, values, startIn}
 
 -- The weight of edge e, two levels up, and its column vertex.
 abbrev pub valueIn : List ℤ → ℕ → ℕ
@@ -39,10 +39,10 @@ pub record Keepable (rows : ℕ) (column : List ℕ) (weight : List ℤ) (e : �
   pub weight-in : Within greatestWeight (getD weight e (pos 0))
 
 -- An edge, its column vertex and its weight are stored at place k, and those at other places stay.
-pub record ArcStored (k edge head worth : ℕ) (old new : List ℕ) : Type 0 where
+pub record ArcStored (k edge head raised : ℕ) (old new : List ℕ) : Type 0 where
   pub edge-here : edges new k ≡ edge
   pub head-here : heads new k ≡ head
-  pub value-here : values new k ≡ worth
+  pub value-here : values new k ≡ raised
   pub edge-other : (j : ℕ) → j < mostEdges → j ≢ k → edges new j ≡ edges old j
   pub head-other : (j : ℕ) → j < mostEdges → j ≢ k → heads new j ≡ heads old j
   pub value-other : (j : ℕ) → j < mostEdges → j ≢ k → values new j ≡ values old j
@@ -56,7 +56,7 @@ pub record Readable (rows n : ℕ) (column : List ℕ) (weight : List ℤ) (inde
   pub edge : Keepable rows column weight (edgeIn index n i)
 
 -- What is kept at place k: an edge that stands at one of the places from .. to - 1, its column vertex, and its weight two levels up.
-pub record Entry (rows : ℕ) (column : List ℕ) (weight : List ℤ) (edgeAt : ℕ → ℕ) (from to : ℕ) (arc : List ℕ) (k : ℕ) : Type 0 where
+pub record ArcEntry (rows : ℕ) (column : List ℕ) (weight : List ℤ) (edgeAt : ℕ → ℕ) (from to : ℕ) (arc : List ℕ) (k : ℕ) : Type 0 where
   pub place : ℕ
   pub low : from ≤ place
   pub high : place < to
@@ -68,7 +68,7 @@ pub record Entry (rows : ℕ) (column : List ℕ) (weight : List ℤ) (edgeAt : 
 pub record KeptRow (rows : ℕ) (column : List ℕ) (weight : List ℤ) (keep : ℕ → Bool) (edgeAt : ℕ → ℕ) (from to : ℕ) (arc : List ℕ) (stop : ℕ) : Type 0 where
   pub low : from ≤ stop
   pub high : stop ≤ to
-  pub each : (k : ℕ) → from ≤ k → k < stop → Entry rows column weight edgeAt from to arc k
+  pub each : (k : ℕ) → from ≤ k → k < stop → ArcEntry rows column weight edgeAt from to arc k
   pub all : (i : ℕ) → from ≤ i → i < to → keep (edgeAt i) ≡ true → (k : ℕ) × (from ≤ k) × (k < stop) × (edges arc k ≡ edgeAt i)
 
 -- What is stored before place k stays.

@@ -1,14 +1,13 @@
 // What the searches are lent: the kept edges of each row vertex, and where the list of each vertex starts and stops.
-use graph::MOST_VERTICES;
 use graph::Shape;
-use tree::HEADS;
-use tree::LEASTS;
-use tree::MOST_ARCS;
-use tree::MOST_TABLE;
-use tree::STOPS;
-use tree::VALUES;
-use tree::WEIGHTLESS;
-use tree::either;
+use integers::either;
+use method::HEADS;
+use method::LEASTS;
+use method::MOST_ARCS;
+use method::MOST_TABLE;
+use method::STOPS;
+use method::VALUES;
+use method::WEIGHTLESS;
 ghost use Prim.Native.Nat.{ℕ, _+_, _-_, _≤_, _<_};
 ghost use mathlib.Core.Path.{_≡_};
 ghost use mathlib.Core.Bool.{cond};
@@ -16,8 +15,8 @@ ghost use lib.ListN.{length, getD};
 ghost use Rattle.graph.specs.Limits.{mostVertices, mostEdges};
 ghost use Rattle.graph.specs.Graph.{graphOf, verticesIn};
 ghost use Rattle.graph.specs.Index.{indexOf};
-ghost use Rattle.tree.specs.Method.{Solvable};
-ghost use Rattle.tree.specs.Lists.{starts, stops, leasts, mostTable, edges, heads, values, mostArcs, keeps, Kept};
+ghost use Rattle.method.specs.Method.{Solvable};
+ghost use Rattle.method.specs.Lists.{starts, stops, leasts, mostTable, edges, heads, values, mostArcs, keeps, Kept};
 ghost use Rattle.arcs.specs.Arcs.{valueIn, headIn, keepsIn, edgeIn, Keepable, ArcStored, Readable, KeptRow, SameArcs, SameBounds, ListsBegun};
 
 // The edge at place k of an index of n vertices, where the places follow the n + 1 offsets.
@@ -47,12 +46,12 @@ fn keep_edge(
 {
     let at = k as usize;
     let head = rows + column[e] - 1;
-    let value = tree::value_at(weight, e);
+    let value = method::value_at(weight, e);
     let low = table[LEASTS + head as usize];
     arc[at] = e as u32;
     arc[HEADS + at] = head;
     arc[VALUES + at] = value;
-    tree::pick(
+    integers::pick(
         either(value > WEIGHTLESS, either(least > 0, low > 0)),
         k + 1,
         k,
@@ -75,7 +74,7 @@ fn keep_row(
     ensures { λ stop. ⌜ KeptRow (s .rows) (now (column .entry)) (now (weight .entry)) (keepsIn (s .rows) (now (column .entry)) (now (weight .entry)) (now (table .entry)) (leasts (now (table .entry)) r)) (edgeIn (now (index .entry)) (verticesIn s)) (getD (now (index .entry)) r 0) (getD (now (index .entry)) (r + 1) 0) (now (arc .exit)) stop ⌝ }
     ensures { λ _. ⌜ SameArcs (getD (now (index .entry)) r 0) (now (arc .entry)) (now (arc .exit)) × (length (now (arc .exit)) ≡ mostArcs) ⌝ }
 {
-    let n = checks::vertex_count(s) as usize;
+    let n = graph::vertex_count(s) as usize;
     let least = table[LEASTS + r];
     let last = index[r + 1];
     let mut i = index[r];
@@ -127,7 +126,7 @@ pub fn begin_lists(
     requires { ⌜ length (now table) ≡ mostTable ⌝ }
     ensures { λ _. ⌜ ListsBegun (graphOf s (now (row .entry)) (now (column .entry)) (now (weight .entry))) (now (table .entry)) (now (table .exit)) (verticesIn s) ⌝ }
 {
-    let n = checks::vertex_count(s) as usize;
+    let n = graph::vertex_count(s) as usize;
     let mut c = s.rows as usize;
     while c < n {
         table[c] = index[c] - index[s.rows as usize];

@@ -1,20 +1,18 @@
 -- The problem line and the source nodes, by the lines that are found.
-use Prim.Native.Nat.{ℕ, _+_, _<_, _≤_}
+use Prim.Native.Nat.{ℕ, _+_}
 use mathlib.Core.Path.{_≡_, refl, sym, ap, _∙_, subst}
 use mathlib.Core.Bool.{Bool, true, false, cond}
 use mathlib.Core.List.{List}
-use lib.Dec.{ltb, eqb}
 use lib.IntN.{ℤ}
 use lib.ListN.{drop}
-use borrow.Author.Tests.{eqb-true, lt-ltb, le-ltb}
 use Rattle.graph.specs.declared.Fault.{Fault}
-use Rattle.graph.specs.declared.Fault.the-variants.{Sizes, AssignmentLine, Sources}
+use Rattle.graph.specs.declared.Fault.the-variants.{Sizes, AssignmentLine}
 use Rattle.graph.specs.declared.Refusal.{Refusal}
 use Rattle.graph.specs.Refusal.{Outcome, yields, refuses}
 use Rattle.graph.specs.Graph.{Graph, shapeInRange}
 use Rattle.layout.specs.Text.{lines}
 use Rattle.layout.specs.GraphText.{noEdges}
-use Rattle.layout.specs.AssignmentText.{Stated, Progress, start, naming, joining, assignmentShape, judged, withArc, entryOn, onEntry, skipped, complete, proceed, readEntries, readArcs}
+use Rattle.layout.specs.AssignmentText.{Stated, Progress, start, naming, joining, assignmentShape, judged, entryOn, onEntry, skipped, complete, proceed, readEntries, readArcs}
 use Rattle.text.specs.declared.Cursor.{Cursor}
 use Rattle.entries.specs.declared.Entry.{Entry}
 use Rattle.entries.specs.declared.Entry.the-variants as Entry
@@ -26,9 +24,10 @@ use Rattle.lines.specs.Walk.{origin}
 use Rattle.lines.proofs.Entries.{found-line, entries-found}
 use Rattle.assignment_reader.specs.declared.FoundProblem.the-variants as FoundProblem
 use Rattle.assignment_reader.specs.declared.FoundSources.the-variants as FoundSources
-use Rattle.assignment_reader.specs.declared.SourceLine.{SourceLine}
-use Rattle.assignment_reader.specs.declared.SourceLine.the-variants as SourceLine
-use Rattle.assignment_reader.specs.Sources.{remaining, ProblemAs, SourceAs, SourcesAs}
+use Rattle.sources.specs.declared.SourceLine.{SourceLine}
+use Rattle.sources.specs.declared.SourceLine.the-variants as SourceLine
+use Rattle.sources.specs.Sources.{SourceAs}
+use Rattle.assignment_reader.specs.Sources.{remaining, ProblemAs, SourcesAs}
 
 -- ---- the sizes
 
@@ -45,47 +44,6 @@ judged-on P rows f rest = go (shapeInRange (assignmentShape P rows))
         ≡ cond b (proceed (f (noEdges (assignmentShape P rows))) rest) (refuses Sizes (P .line))
     go true = refl
     go false = refl
-
--- ---- a line after the problem line
-
-module _ (l : List ℕ) {e : Entry} (says : entrySays e ≡ entryOn l) (arcs rows : ℕ) where
-  module _ {v : ℕ} (is : e ≡ Entry.Source v) {x : Bool} (tests : x ≡ eqb v (rows + 1)) where
-    node-does : (b : Bool) → x ≡ b → (k : ℕ) (P : Stated) →
-        onEntry k (naming P rows) (entryOn l) ≡ cond b (yields (naming P (rows + 1))) (refuses Sources k)
-    node-does b q k P =
-        ap (onEntry k (naming P rows)) (sym says ∙ ap entrySays is)
-        ∙ ap (λ (y : Bool). cond {A = Outcome Progress} y (yields (naming P (rows + 1))) (refuses Sources k)) (sym tests ∙ q)
-
-    pub node-next : x ≡ true → SourceAs l arcs rows (SourceLine.Node v)
-    node-next q k P right = node-does true q k P ∙ ap (λ (n : ℕ). yields (naming P n)) (sym (eqb-true v (rows + 1) (sym tests ∙ q)))
-
-    pub node-other : x ≡ false → SourceAs l arcs rows (SourceLine.Refused Sources)
-    node-other q k P right = node-does false q k P
-
-  module _ {a b : ℕ} {z : ℤ} (is : e ≡ Entry.Arc a b z) where
-    in-state : (k : ℕ) (t : Progress) → onEntry k t (entryOn l) ≡ onEntry k t (entrySays (Entry.Arc a b z))
-    in-state k t = ap (onEntry k t) (sym says ∙ ap entrySays is)
-
-    pub arc-first : 0 < arcs → SourceAs l arcs rows SourceLine.Arc
-    arc-first some k P right =
-        let q : ltb 0 (P .arcs) ≡ true = ap (ltb 0) right ∙ lt-ltb 0 arcs some in
-        let g : Graph = noEdges (assignmentShape P rows) in
-        in-state k (naming P rows)
-        ∙ ap (λ (y : Bool). cond {A = Outcome Progress} y (judged P rows (λ g. withArc k g a b z)) (refuses AssignmentLine k)) q
-        ∙ ap (λ (o : Outcome Progress). cond (shapeInRange (assignmentShape P rows)) o (refuses Sizes (P .line)))
-        (sym (in-state k (joining g) ∙ ap (λ (y : Bool). cond {A = Outcome Progress} y (withArc k g a b z) (refuses AssignmentLine k)) q))
-
-    pub arc-surplus : arcs ≤ 0 → SourceAs l arcs rows (SourceLine.Refused AssignmentLine)
-    arc-surplus none k P right =
-        in-state k (naming P rows)
-        ∙ ap (λ (y : Bool). cond {A = Outcome Progress} y (judged P rows (λ g. withArc k g a b z)) (refuses AssignmentLine k))
-        (ap (ltb 0) right ∙ le-ltb 0 arcs none)
-
-  pub problem-twice : {n m : ℕ} → e ≡ Entry.Problem n m → SourceAs l arcs rows (SourceLine.Refused AssignmentLine)
-  problem-twice is k P right = ap (onEntry k (naming P rows)) (sym says ∙ ap entrySays is)
-
-  pub line-bad : e ≡ Entry.Bad → SourceAs l arcs rows (SourceLine.Refused AssignmentLine)
-  line-bad is k P right = ap (onEntry k (naming P rows)) (sym says ∙ ap entrySays is)
 
 -- ---- the loop over the source nodes
 

@@ -110,14 +110,14 @@ textTests lent s = once LentLength lent ∷ once Sizes true ∷ once TextLength 
 abbrev lentRight : ℕ → ℕ → ℕ → ℕ → Bool
 lentRight r c w b = eqb r 1024 && eqb c 1024 && eqb w 1024 && eqb b 128
 
-pub record Tested (r c w b : ℕ) (s : List ℕ) (a : Check) : Type 0 where
+pub record TextTested (r c w b : ℕ) (s : List ℕ) (a : Check) : Type 0 where
   pub says : checkSays a ≡ passing (textTests (lentRight r c w b) s) (yields tt)
 
 pub tested-by : {r c w b : ℕ} (s : List ℕ) {lent : Bool} → lent ≡ lentRight r c w b → (a : Check) → checkSays a ≡ passing (textTests lent s) (yields tt) →
-    Tested r c w b s a
+    TextTested r c w b s a
 tested-by s p a says = record { says = says ∙ ap (λ (x : Bool). passing (textTests x s) (yields (tt {0}))) p }
 
-module _ {r c w b : ℕ} {s : List ℕ} {a : Check} (T : Tested r c w b s a) where
+module _ {r c w b : ℕ} {s : List ℕ} {a : Check} (T : TextTested r c w b s a) where
   refused-all : {x : Refusal} {row column : List ℕ} {weight bound : List ℤ} → refuses (x .fault) (x .place) ≡ reported shapeOf (readAssignment r c w b s) →
       Cleared r c w row column weight → bound ≡ replicate b (pos 0) →
       AssignmentAnswered (readAssignment r c w b s) r c w b (GraphAnswer.Refused x) row column weight bound

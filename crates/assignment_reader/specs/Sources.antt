@@ -3,10 +3,10 @@ use Prim.Native.Nat.{ℕ, _+_}
 use mathlib.Core.Path.{_≡_}
 use mathlib.Core.List.{List}
 use lib.ListN.{drop}
-use Rattle.graph.specs.Refusal.{Outcome, yields, refuses}
+use Rattle.graph.specs.Refusal.{Outcome, refuses}
 use Rattle.graph.specs.Graph.{Graph}
 use Rattle.layout.specs.Text.{lines}
-use Rattle.layout.specs.AssignmentText.{Stated, Progress, naming, joining, judged, entryOn, onEntry, readEntries, readArcs}
+use Rattle.layout.specs.AssignmentText.{Stated, Progress, naming, joining, judged, readEntries, readArcs}
 use Rattle.text.specs.declared.Cursor.{Cursor}
 use Rattle.lines.specs.Found.{Reached}
 use Rattle.assignment_reader.specs.declared.Problem.{Problem}
@@ -14,8 +14,6 @@ use Rattle.assignment_reader.specs.declared.FoundProblem.{FoundProblem}
 use Rattle.assignment_reader.specs.declared.FoundProblem.the-variants as FoundProblem
 use Rattle.assignment_reader.specs.declared.FoundSources.{FoundSources}
 use Rattle.assignment_reader.specs.declared.FoundSources.the-variants as FoundSources
-use Rattle.assignment_reader.specs.declared.SourceLine.{SourceLine}
-use Rattle.assignment_reader.specs.declared.SourceLine.the-variants as SourceLine
 
 -- What the code's problem line states.
 abbrev pub stated : Problem → Stated
@@ -33,14 +31,6 @@ pub record ProblemFound (s : List ℕ) (p : Problem) (d : Cursor) : Type 0 where
 abbrev pub ProblemAs : List ℕ → FoundProblem → Type 0
 ProblemAs s (FoundProblem.At p d) = ProblemFound s p d
 ProblemAs s (FoundProblem.Refused x) = refuses (x .fault) (x .place) ≡ readArcs s
-
--- What a line does after the problem line, which states so many arcs, and so many source nodes: it is the next one; or the first arc, where the sizes are
--- judged and it is the first of the graph; or it is refused.
-abbrev pub SourceAs : List ℕ → ℕ → ℕ → SourceLine → Type 0
-SourceAs l arcs rows (SourceLine.Node v) = (k : ℕ) (P : Stated) → P .arcs ≡ arcs → onEntry k (naming P rows) (entryOn l) ≡ yields (naming P v)
-SourceAs l arcs rows SourceLine.Arc =
-    (k : ℕ) (P : Stated) → P .arcs ≡ arcs → onEntry k (naming P rows) (entryOn l) ≡ judged P rows (λ g. onEntry k (joining g) (entryOn l))
-SourceAs l arcs rows (SourceLine.Refused f) = (k : ℕ) (P : Stated) → P .arcs ≡ arcs → onEntry k (naming P rows) (entryOn l) ≡ refuses f k
 
 -- The source nodes are known: from the cursor c on, the sizes are judged, and the arcs from the cursor d on remain.
 pub record SourcesFound (s : List ℕ) (c : Cursor) (P : Stated) (rows : ℕ) (d : Cursor) : Type 0 where

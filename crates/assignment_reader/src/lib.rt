@@ -1,6 +1,5 @@
 // Reads a DIMACS assignment text: a graph (sheet) whose bounds (limits) are all 1.
 use checks::Check;
-use checks::both;
 use edge_reader::EdgeText;
 use entries::Entry;
 use graph::Fault;
@@ -9,12 +8,13 @@ use graph::MOST_EDGES;
 use graph::MOST_VERTICES;
 use graph::Refusal;
 use graph::Shape;
+use integers::both;
 use layout::GraphAnswer;
 use lines::FoundLine;
+use sources::SourceLine;
 use text::Cursor;
-ghost use Prim.Native.Nat.{_+_, _≤_};
+ghost use Prim.Native.Nat.{_≤_};
 ghost use mathlib.Core.Path.{_≡_};
-ghost use lib.Dec.{eqb};
 ghost use lib.IntN.{pos};
 ghost use lib.ListN.{length, replicate};
 ghost use Rattle.graph.specs.Limits.{mostVertices, mostEdges};
@@ -24,7 +24,7 @@ ghost use Rattle.layout.specs.AssignmentText.{Stated, assignmentShape, readArcs
 ghost use Rattle.layout.specs.Answers.{graphSays};
 ghost use Rattle.lines.specs.Found.{Reached};
 ghost use Rattle.edge_reader.specs.Edges.{Cleared, GraphReading};
-ghost use Rattle.assignment_reader.specs.Sources.{stated, ProblemAs, SourceAs, SourcesAs};
+ghost use Rattle.assignment_reader.specs.Sources.{stated, ProblemAs, SourcesAs};
 
 // What the problem line tells: its number, and the numbers of nodes and of arcs; and the cursor after it.
 struct Problem {
@@ -38,23 +38,13 @@ enum FoundProblem {
     Refused(Refusal),
 }
 
-// The refusal of a line of an assignment text.
-fn wrong_line(place: u64) -> Refusal
-    ensures { λ r. ⌜ r ≡ record { fault = Fault.AssignmentLine; place = place } ⌝ }
-{
-    Refusal {
-        fault: Fault::AssignmentLine,
-        place,
-    }
-}
-
 // The problem line, which is the first that counts.
 fn find_problem(text: &[u8]) -> FoundProblem
     ensures { λ r. ⌜ ProblemAs (now (text .entry)) r ⌝ }
 {
     match lines::entry_line(text, Cursor { at: 0, line: 0 }) {
-        FoundLine::Ended(place) => FoundProblem::Refused(wrong_line(place)),
-        FoundLine::Long(place) => FoundProblem::Refused(wrong_line(place)),
+        FoundLine::Ended(place) => FoundProblem::Refused(lines::wrong_line(place)),
+        FoundLine::Long(place) => FoundProblem::Refused(lines::wrong_line(place)),
         FoundLine::At { start, end, next } => {
             let line = next.line as u64;
             match entries::entry_on(&text[start..end]) {
@@ -62,13 +52,13 @@ fn find_problem(text: &[u8]) -> FoundProblem
                     let problem = Problem { line, nodes, arcs };
                     FoundProblem::At { problem, next }
                 }
-                Entry::Source(node) => FoundProblem::Refused(wrong_line(line)),
+                Entry::Source(node) => FoundProblem::Refused(lines::wrong_line(line)),
                 Entry::Arc {
                     source,
                     target,
                     cost,
-                } => FoundProblem::Refused(wrong_line(line)),
-                Entry::Bad => FoundProblem::Refused(wrong_line(line)),
+                } => FoundProblem::Refused(lines::wrong_line(line)),
+                Entry::Bad => FoundProblem::Refused(lines::wrong_line(line)),
             }
         }
     }
@@ -78,48 +68,6 @@ fn find_problem(text: &[u8]) -> FoundProblem
 enum FoundSources {
     Until { rows: u32, at: Cursor },
     Refused(Refusal),
-}
-
-// A source node is the one after the first `rows` nodes.
-fn is_next(node: u32, rows: u32) -> bool
-    ensures { λ r. ⌜ r ≡ eqb node (rows + 1) ⌝ }
-{
-    if node == 0 {
-        return false;
-    }
-    node - 1 == rows
-}
-
-// What a line after the problem line is: the next source node, the first arc, or refused.
-enum SourceLine {
-    Node(u32),
-    Arc,
-    Refused(Fault),
-}
-
-fn source_on(line: &[u8], arcs: u32, rows: u32) -> SourceLine
-    ensures { λ r. ⌜ SourceAs (now (line .entry)) arcs rows r ⌝ }
-{
-    match entries::entry_on(line) {
-        Entry::Source(node) => {
-            if is_next(node, rows) {
-                return SourceLine::Node(node);
-            }
-            SourceLine::Refused(Fault::Sources)
-        }
-        Entry::Arc {
-            source,
-            target,
-            cost,
-        } => {
-            if arcs > 0 {
-                return SourceLine::Arc;
-            }
-            SourceLine::Refused(Fault::AssignmentLine)
-        }
-        Entry::Problem { nodes, arcs } => SourceLine::Refused(Fault::AssignmentLine),
-        Entry::Bad => SourceLine::Refused(Fault::AssignmentLine),
-    }
 }
 
 // The source nodes from a cursor on, up to the first arc or the end.
@@ -135,9 +83,13 @@ fn find_sources(text: &[u8], start: Cursor, arcs: u32) -> FoundSources
                 return FoundSources::Until { rows, at: c };
             }
             FoundLine::Long(place) => {
-                return FoundSources::Refused(wrong_line(place));
+                return FoundSources::Refused(lines::wrong_line(place));
             }
-            FoundLine::At { start, end, next } => match source_on(&text[start..end], arcs, rows) {
+            FoundLine::At { start, end, next } => match sources::next_source(
+                &text[start..end],
+                arcs,
+                rows,
+            ) {
                 SourceLine::Node(node) => {
                     rows = node;
                     c = next;
@@ -154,19 +106,24 @@ fn find_sources(text: &[u8], start: Cursor, arcs: u32) -> FoundSources
 }
 
 // The shape of a graph with so many source nodes: rows are the source nodes, and columns the nodes left over.
-fn shape_of(problem: Problem, rows: u32) -> Shape
+fn assignment_shape(problem: Problem, rows: u32) -> Shape
     ensures { λ r. ⌜ r ≡ assignmentShape (stated problem) rows ⌝ }
 {
     Shape {
         kind: Kind::Bipartite,
         rows,
-        columns: edge_reader::beyond(problem.nodes, rows),
+        columns: nodes::beyond(problem.nodes, rows),
         edges: problem.arcs,
     }
 }
 
 // The whole text, into outputs that are cleared.
-fn read_lines(text: &[u8], row: &mut [u32], column: &mut [u32], weight: &mut [i32]) -> GraphAnswer
+fn read_assignment_lines(
+    text: &[u8],
+    row: &mut [u32],
+    column: &mut [u32],
+    weight: &mut [i32],
+) -> GraphAnswer
     requires { ⌜ Cleared mostEdges mostEdges mostEdges (now row) (now column) (now weight) ⌝ }
     ensures { λ r. ⌜ GraphReading (readArcs (now (text .entry))) r (now (row .exit)) (now (column .exit)) (now (weight .exit)) ⌝ }
 {
@@ -175,8 +132,8 @@ fn read_lines(text: &[u8], row: &mut [u32], column: &mut [u32], weight: &mut [i3
         FoundProblem::At { problem, next } => match find_sources(text, next, problem.arcs) {
             FoundSources::Refused(r) => GraphAnswer::Refused(r),
             FoundSources::Until { rows, at } => {
-                let s = shape_of(problem, rows);
-                if checks::sizes_in_range(s) {
+                let s = assignment_shape(problem, rows);
+                if ranges::sizes_in_range(s) {
                     return edge_reader::read_edges(
                         text,
                         at,
@@ -202,7 +159,7 @@ fn set_bounds(bound: &mut [i32], n: usize)
     requires { ⌜ n ≤ mostVertices ⌝ }
     ensures { λ _. ⌜ now (bound .exit) ≡ filled mostVertices (pos 0) (replicate n (pos 1)) ⌝ }
 {
-    lent::fill(&mut bound[..n], 1);
+    filling::fill(&mut bound[..n], 1);
 }
 
 // Reads a graph and its bounds, which are all 1. After a refusal the outputs are all 0.
@@ -220,15 +177,15 @@ pub fn read_assignment(
     ensures bounds { λ _. ⌜ now (bound .exit) ≡ output (length (now (bound .entry))) (pos 0) unitBounds (readAssignment (length (now (row .entry))) (length (now (column .entry))) (length (now (weight .entry))) (length (now (bound .entry))) (now (text .entry))) ⌝ }
 {
     edge_reader::clear(row, column, weight);
-    lent::clear_integers(bound);
+    filling::clear_integers(bound);
     let ends = both(row.len() == MOST_EDGES, column.len() == MOST_EDGES);
     let edges = both(ends, weight.len() == MOST_EDGES);
     let lent = both(edges, bound.len() == MOST_VERTICES);
     match lines::check_text(text, lent, true) {
         Check::Refused(r) => GraphAnswer::Refused(r),
-        Check::Passed => match read_lines(text, row, column, weight) {
+        Check::Passed => match read_assignment_lines(text, row, column, weight) {
             GraphAnswer::Graph(s) => {
-                set_bounds(bound, checks::vertex_count(s) as usize);
+                set_bounds(bound, graph::vertex_count(s) as usize);
                 GraphAnswer::Graph(s)
             }
             GraphAnswer::Refused(r) => {

@@ -16,10 +16,12 @@ use Rattle.layout.specs.Text.{bytes, decimal, signed, spaced, unlines}
 use Rattle.layout.specs.AssignmentText.{problemLine, sourceLine, sourceLines, arcLines, assignmentText}
 use Rattle.readback.proofs.Accepted.{small}
 use Rattle.assignments.proofs.Fits.{assignment-parts, problem-text-le, sources-le, arcs-le}
-use Rattle.writer.specs.Written.{Puts, Written}
-use Rattle.writer.proofs.Over.{puts-next, puts-same, zeros-written}
-use Rattle.writer.proofs.Signs.{fromBits}
-use Rattle.writer.proofs.Parts.{Part, part-none, part-next, part-byte, part-signed, blanked}
+use Rattle.digits.specs.Puts.{Puts}
+use Rattle.writer.specs.Written.{Written}
+use Rattle.writer.proofs.Zeros.{zeros-written}
+use Rattle.digits.proofs.Over.{puts-next, puts-same}
+use Rattle.digits.proofs.Signs.{fromBits}
+use Rattle.digits.proofs.Parts.{Part, part-none, part-next, part-byte, part-signed, blanked}
 
 -- ---- the problem line
 
@@ -39,9 +41,10 @@ source-is : (v : ℕ) → bytes "n " ++ (decimal (v + 1) ++ (10 ∷ [])) ≡ unl
 unfolding unlines spaced
 source-is v = refl
 
-pub source-put : {d l m : List ℕ} {at a e : ℕ} (v : ℕ) → at + 23 ≤ length d → Puts d at (bytes "n ") l a
-    → Puts l a (decimal (v + 1) ++ (10 ∷ [])) m e × (e ≤ a + 21) → Puts d at (unlines (sourceLine v ∷ [])) m e
-source-put v room p (q, k) = puts-same (puts-next p q (omega (arith, p .place))) (source-is v)
+pub source-put : {d l m : List ℕ} {at a e n : ℕ} (v : ℕ) → at + 23 ≤ length d → Puts d at (bytes "n ") l a → n ≡ v + 1
+    → Puts l a (decimal n ++ (10 ∷ [])) m e × (e ≤ a + 21) → Puts d at (unlines (sourceLine v ∷ [])) m e
+source-put v room p is (q, k) =
+    puts-same (puts-next p q (omega (arith, p .place))) (ap (λ (j : ℕ). bytes "n " ++ (decimal j ++ (10 ∷ []))) is ∙ source-is v)
 
 -- ---- the line of an arc
 

@@ -16,12 +16,13 @@ use Rattle.graph.specs.Passed.{Passed}
 use Rattle.graph.proofs.Passing.{passing-append, passing-found, passing-none}
 use Rattle.checks.specs.declared.Check.{Check}
 use Rattle.checks.specs.declared.Check.the-variants as Check
-use Rattle.checks.specs.declared.Lowest.{Lowest}
-use Rattle.checks.specs.declared.Lowest.the-variants as Lowest
-use Rattle.checks.specs.Checks.{lowestSays, checkSays}
+use Rattle.lowest.specs.declared.Lowest.{Lowest}
+use Rattle.lowest.specs.declared.Lowest.the-variants as Lowest
+use Rattle.lowest.specs.Lowest.{lowestSays}
+use Rattle.checks.specs.Checks.{checkSays}
 use Rattle.checks.proofs.Refusals.{checked-passed, checked-refused}
 use Rattle.checks.proofs.Tests.{part-refuses, part-passes}
-use Rattle.lent.specs.Bipartite.{bipartiteTests}
+use Rattle.graph.specs.Tests.{bipartiteTests}
 use Rattle.lent.proofs.Bipartite.{Shown, lowest-vertex, vertex-among, bipartite-shown}
 use Rattle.layout.specs.AssignmentText.{assignmentText, assignmentTests, writeAssignment}
 

@@ -1,17 +1,16 @@
 // Writes a graph (sheet) whose bounds (limits) are all 1 as a DIMACS assignment text, after the tests on all that is lent.
 use checks::Check;
-use checks::Lowest;
+use digits::put_field;
 use graph::Fault;
 use graph::LONGEST_TEXT;
 use graph::Shape;
 use layout::TextAnswer;
+use lowest::Lowest;
 use writer::put_bytes;
-use writer::put_field;
 ghost use Prim.Native.Nat.{_+_, _≤_, _<_};
 ghost use mathlib.Core.Path.{_≡_};
 ghost use mathlib.Core.List.{[], _∷_};
-ghost use lib.IntN.{pos, negℤ};
-ghost use lib.ListN.{length, getD};
+ghost use lib.ListN.{length};
 ghost use Rattle.graph.specs.Limits.{longestText};
 ghost use Rattle.graph.specs.Refusal.{yields, told, passing, reported, output};
 ghost use Rattle.graph.specs.Graph.{graphOf};
@@ -20,7 +19,8 @@ ghost use Rattle.checks.specs.Checks.{checkSays};
 ghost use Rattle.layout.specs.Answers.{textSays};
 ghost use Rattle.layout.specs.Text.{unlines};
 ghost use Rattle.layout.specs.AssignmentText.{problemLine, sourceLine, sourceLines, arcLine, arcLines, assignmentText, assignmentTests, writeAssignment};
-ghost use Rattle.writer.specs.Written.{Puts, Written};
+ghost use Rattle.digits.specs.Puts.{Puts};
+ghost use Rattle.writer.specs.Written.{Written, TextAnswers};
 
 // Writes the problem line at the start: the numbers of nodes and of arcs. The result is the place after it.
 fn put_problem(out: &mut [u8], s: Shape) -> usize
@@ -38,8 +38,9 @@ fn put_source(out: &mut [u8], at: usize, v: u32) -> usize
     requires { ⌜ at + 23 ≤ length (now out) ⌝ }
     ensures { λ r. ⌜ Puts (now (out .entry)) at (unlines (sourceLine v ∷ [])) (now (out .exit)) r ⌝ }
 {
+    let node = nodes::source_node(v);
     let a = put_bytes(out, at, b"n ");
-    put_field(out, a, v as u64 + 1, 10)
+    put_field(out, a, node, 10)
 }
 
 // Writes the lines of the source nodes of the row vertices from `start` on. The result is the place after them.
@@ -54,22 +55,6 @@ fn put_sources(out: &mut [u8], start: usize, rows: u32) -> usize
         v += 1;
     }
     at
-}
-
-// The cost of an arc: the edge's weight negated.
-fn cost_of(weight: &[i32], e: usize) -> i64
-    requires { ⌜ e < length (now weight) ⌝ }
-    ensures { λ r. ⌜ r ≡ negℤ (getD (now (weight .entry)) e (pos 0)) ⌝ }
-{
-    let w = integers::element(weight, e);
-    integers::subtract(0, w)
-}
-
-// The node of column c: the columns come after the rows.
-fn column_node(rows: u32, c: u32) -> u64
-    ensures { λ r. ⌜ r ≡ rows + c ⌝ }
-{
-    rows as u64 + c as u64
 }
 
 // Writes the line of the arc of edge e from `at` on: its row, the node of its column, and its cost. The result is the place after it.
@@ -88,9 +73,9 @@ fn put_arc(
 {
     let a = put_bytes(out, at, b"a ");
     let b = put_field(out, a, row[e] as u64, 32);
-    let target = column_node(s.rows, column[e]);
+    let target = nodes::column_node(s.rows, column[e]);
     let c = put_field(out, b, target, 32);
-    let end = writer::put_signed(out, c, cost_of(weight, e));
+    let end = digits::put_signed(out, c, nodes::cost_of(weight, e));
     out[end] = 10;
     end + 1
 }
@@ -123,10 +108,25 @@ fn put_assignment(out: &mut [u8], s: Shape, row: &[u32], column: &[u32], weight:
     requires { ⌜ Passed (graphOf s (now row) (now column) (now weight)) ⌝ }
     ensures { λ r. ⌜ Written longestText (assignmentText (graphOf s (now (row .entry)) (now (column .entry)) (now (weight .entry)))) (now (out .exit)) r ⌝ }
 {
-    lent::clear_bytes(out);
+    filling::clear_bytes(out);
     let a = put_problem(out, s);
     let b = put_sources(out, a, s.rows);
     put_arcs(out, b, s, row, column, weight)
+}
+
+// The answer once the tests are passed: the text is written, and its length is told.
+fn answer_assignment(
+    out: &mut [u8],
+    s: Shape,
+    row: &[u32],
+    column: &[u32],
+    weight: &[i32],
+) -> TextAnswer
+    requires { ⌜ length (now out) ≡ longestText ⌝ }
+    requires { ⌜ Passed (graphOf s (now row) (now column) (now weight)) ⌝ }
+    ensures { λ r. ⌜ TextAnswers longestText (assignmentText (graphOf s (now (row .entry)) (now (column .entry)) (now (weight .entry)))) (now (out .exit)) r ⌝ }
+{
+    TextAnswer::Written(put_assignment(out, s, row, column, weight))
 }
 
 // The tests, in their order: those of a bipartite graph with bounds, and that each bound is 1. `out` is the length of the output.
@@ -144,7 +144,7 @@ fn check_assignment(
     if let Check::Refused(r) = lent::check_bipartite(s, row, column, weight, bound, long) {
         return Check::Refused(r);
     }
-    if let Lowest::At(v) = checks::lowest_not_one(bound) {
+    if let Lowest::At(v) = lowest::lowest_not_one(bound) {
         return checks::refused_item(Fault::BoundNotOne, v);
     }
     Check::Passed
@@ -163,9 +163,8 @@ pub fn write_assignment(
     ensures text { λ _. ⌜ now (out .exit) ≡ output (length (now (out .entry))) 0 (λ t. t) (writeAssignment (graphOf s (now (row .entry)) (now (column .entry)) (now (weight .entry))) (now (bound .entry)) (length (now (out .entry)))) ⌝ }
 {
     if let Check::Refused(r) = check_assignment(s, row, column, weight, bound, out.len()) {
-        lent::clear_bytes(out);
+        filling::clear_bytes(out);
         return TextAnswer::Refused(r);
     }
-    let length = put_assignment(out, s, row, column, weight);
-    TextAnswer::Written(length)
+    answer_assignment(out, s, row, column, weight)
 }

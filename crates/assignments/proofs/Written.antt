@@ -49,7 +49,7 @@ two-sided : (k : Kind) → isBipartite k ≡ true → k ≡ Bipartite
 two-sided Bipartite e = refl
 two-sided General e = zero-one (cc)
 
-pub record Written (g : Graph) (bound : List ℤ) (n : ℕ) (text : List ℕ) : Type 0 where
+pub record WritesText (g : Graph) (bound : List ℤ) (n : ℕ) (text : List ℕ) : Type 0 where
   pub passed : Passed g
   pub kind : g .kind ≡ Bipartite
   pub boundLong : length bound ≡ vertices g
@@ -57,7 +57,7 @@ pub record Written (g : Graph) (bound : List ℤ) (n : ℕ) (text : List ℕ) : 
   pub lent : n ≡ longestText
   pub is : assignmentText g ≡ text
 
-pub yields-written : (g : Graph) (bound : List ℤ) (n : ℕ) (text : List ℕ) → writeAssignment g bound n ≡ yields text → Written g bound n text
+pub yields-written : (g : Graph) (bound : List ℤ) (n : ℕ) (text : List ℕ) → writeAssignment g bound n ≡ yields text → WritesText g bound n text
 unfolding writeAssignment
 yields-written g bound n text e =
     let p = passes (assignmentTests g bound n) (yields (assignmentText g)) text e in
@@ -74,7 +74,7 @@ yields-written g bound n text e =
       is = cc;
     }
 
-pub written-unit : {g : Graph} {bound : List ℤ} {n : ℕ} {text : List ℕ} → Written g bound n text → bound ≡ unitBounds g
+pub written-unit : {g : Graph} {bound : List ℤ} {n : ℕ} {text : List ℕ} → WritesText g bound n text → bound ≡ unitBounds g
 written-unit {g} {bound} W = all-one g bound (W .boundLong) (W .ones)
 
 -- ---- and back: such a graph is written

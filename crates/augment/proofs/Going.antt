@@ -11,10 +11,10 @@ use Rattle.graph.specs.declared.Shape.{Shape}
 use Rattle.graph.specs.Graph.{graphOf}
 use Rattle.graph.specs.Subgraph.{markAt, degree}
 use Rattle.graph.specs.Passed.{Sound}
-use Rattle.tree.specs.Method.{Augmented}
-use Rattle.tree.specs.Tree.{entries, naturals}
-use Rattle.tree.specs.Lists.{nowhere, Listing}
-use Rattle.tree.proofs.Lists.{columns}
+use Rattle.method.specs.Method.{Augmented}
+use Rattle.method.specs.Tree.{entries, naturals}
+use Rattle.method.specs.Lists.{nowhere, Listing}
+use Rattle.method.proofs.Lists.{columns}
 use Rattle.augment.specs.Augment.{Walkable, Ranked, Relistable, Relisted, flipped, otherEnd}
 use Rattle.augment.proofs.Step.{edge-in, edge-mark}
 use Rattle.augment.proofs.Walk.{Walking, begun, stepped, ended}

@@ -11,9 +11,9 @@ use Rattle.integers.proofs.Sum.{is-same, is-other}
 use Rattle.graph.specs.Graph.{Graph, vertices, secondEnd}
 use Rattle.graph.specs.Subgraph.{markAt}
 use Rattle.graph.specs.Index.{edgesOf}
-use Rattle.tree.specs.Lists.{startIn, nowhere, Among, Item, Stands, Listing}
-use Rattle.tree.proofs.Leading.{Put}
-use Rattle.tree.proofs.Lists.{Columns, among-somewhere, one-list}
+use Rattle.method.specs.Lists.{startIn, nowhere, Among, Item, Stands, Listing}
+use Rattle.method.proofs.Leading.{Put}
+use Rattle.method.proofs.Lists.{Columns, among-somewhere, one-list}
 
 module _ {g : Graph} {x : List ℕ} {used list place : ℕ → ℕ} (n : Columns g) where
   -- The list of column vertex v has an edge less than the vertex, and gets one more place: that is the hole.

@@ -15,11 +15,11 @@ use Rattle.integers.proofs.Sum.{is-other}
 use Rattle.graph.specs.declared.Shape.{Shape}
 use Rattle.graph.specs.Graph.{Graph, graphOf, vertices}
 use Rattle.graph.specs.Subgraph.{markAt, degree}
-use Rattle.tree.specs.Method.{Augmented}
-use Rattle.tree.specs.Tree.{entries, naturals}
-use Rattle.tree.specs.Lists.{nowhere, Among, Listing}
-use Rattle.tree.proofs.Leading.{lt-or-ge, Put, put-set}
-use Rattle.tree.proofs.Lists.{Columns, columns, among-below, recount}
+use Rattle.method.specs.Method.{Augmented}
+use Rattle.method.specs.Tree.{entries, naturals}
+use Rattle.method.specs.Lists.{nowhere, Among, Listing}
+use Rattle.method.proofs.Leading.{lt-or-ge, Put, put-set}
+use Rattle.method.proofs.Lists.{Columns, columns, among-below, recount}
 use Rattle.augment.specs.Augment.{Walkable, Relistable, Relisted, flipped, otherEnd}
 use Rattle.augment.proofs.Step.{row-link, column-link, edge-in, row-next, column-next}
 use Rattle.augment.proofs.Lists.{gap-among, widened, unlisted, listed}

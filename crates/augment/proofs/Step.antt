@@ -11,10 +11,10 @@ use Rattle.integers.specs.Sum.{is}
 use Rattle.graph.specs.declared.Shape.{Shape}
 use Rattle.graph.specs.Graph.{Graph, graphOf, columnAt, firstEnd, secondEnd}
 use Rattle.graph.specs.Subgraph.{markAt, endsAt, degree}
-use Rattle.tree.specs.Method.{Link, Labels, Augmented}
-use Rattle.tree.specs.Tree.{entries}
-use Rattle.tree.proofs.Leading.{if-same, if-other}
-use Rattle.tree.proofs.Solvable.{after-rows}
+use Rattle.method.specs.Method.{Link, Labels, Augmented}
+use Rattle.method.specs.Tree.{entries}
+use Rattle.method.proofs.Leading.{if-same, if-other}
+use Rattle.method.proofs.Solvable.{after-rows}
 use Rattle.augment.specs.Augment.{Walkable, flipped, otherEnd}
 use Rattle.augment.proofs.Degree.{degree-flipped}
 

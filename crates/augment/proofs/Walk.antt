@@ -8,8 +8,8 @@ use Rattle.integers.specs.Sum.{is}
 use Rattle.graph.specs.declared.Shape.{Shape}
 use Rattle.graph.specs.Graph.{graphOf}
 use Rattle.graph.specs.Subgraph.{degree}
-use Rattle.tree.specs.Method.{Augmented}
-use Rattle.tree.specs.Tree.{entries}
+use Rattle.method.specs.Method.{Augmented}
+use Rattle.method.specs.Tree.{entries}
 use Rattle.augment.specs.Augment.{Walkable, flipped, otherEnd}
 use Rattle.augment.proofs.Step.{goes-on, whole}
 

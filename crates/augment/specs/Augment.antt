@@ -12,9 +12,9 @@ use Rattle.graph.specs.Graph.{Graph, graphOf, verticesIn, firstEnd, secondEnd}
 use Rattle.graph.specs.Subgraph.{markAt, degree}
 use Rattle.graph.specs.Index.{edgesOf}
 use Rattle.graph.specs.Passed.{Sound}
-use Rattle.tree.specs.Method.{Labels}
-use Rattle.tree.specs.Tree.{entries, naturals}
-use Rattle.tree.specs.Lists.{startIn, nowhere, Listing}
+use Rattle.method.specs.Method.{Labels}
+use Rattle.method.specs.Tree.{entries, naturals}
+use Rattle.method.specs.Lists.{startIn, nowhere, Listing}
 
 -- The walk can start at vertex v of a bipartite graph: v is labelled, and the labels up to its rank, of which there are at most left, are right.
 pub record Walkable (s : Shape) (row column label : List ℕ) (rank : ℕ → ℕ) (root v left : ℕ) (x : List ℕ) : Type 0 where

@@ -10,9 +10,9 @@ ghost use Rattle.graph.specs.Limits.{mostVertices, mostEdges};
 ghost use Rattle.graph.specs.Graph.{graphOf};
 ghost use Rattle.graph.specs.Subgraph.{markAt, degree};
 ghost use Rattle.graph.specs.Passed.{Sound};
-ghost use Rattle.tree.specs.Method.{Augmented};
-ghost use Rattle.tree.specs.Tree.{entries, naturals};
-ghost use Rattle.tree.specs.Lists.{nowhere, Listing};
+ghost use Rattle.method.specs.Method.{Augmented};
+ghost use Rattle.method.specs.Tree.{entries, naturals};
+ghost use Rattle.method.specs.Lists.{nowhere, Listing};
 ghost use Rattle.augment.specs.Augment.{Walkable, Ranked, Relistable, Relisted, flipped, otherEnd};
 
 // Flips an edge: it is chosen if it was not, and chosen no more if it was.
@@ -29,7 +29,7 @@ fn other_end(s: Shape, row: &[u32], column: &[u32], edge: usize, vertex: usize) 
     requires { ⌜ edge < s .edges ⌝ }
     ensures { λ w. ⌜ w ≡ otherEnd (graphOf s (now (row .entry)) (now (column .entry)) []) edge vertex ⌝ }
 {
-    let ends = tree::ends_at(s, row, column, edge);
+    let ends = method::ends_at(s, row, column, edge);
     if vertex == ends.first {
         ends.second
     } else {
@@ -45,7 +45,7 @@ fn relist(mark: u8, list: &mut [i32], place: &mut [u32; MOST_EDGES], hole: u32, 
     if mark > 0 {
         return place[edge as usize];
     }
-    tree::put_natural(list, hole as usize, edge);
+    integers::put_natural(list, hole as usize, edge);
     place[edge as usize] = hole;
     hole
 }

@@ -44,8 +44,8 @@ test-moved a t k = elim (decLt (a + t) k) [
 ]
 
 -- The first k bits from word from on, each as a number; 0 after them.
-abbrev among : List ℕ → ℕ → ℕ → ℕ → ℕ
-among ws from k j = one (ltb j k && bit ws (64 * from + j))
+abbrev amongBits : List ℕ → ℕ → ℕ → ℕ → ℕ
+amongBits ws from k j = one (ltb j k && bit ws (64 * from + j))
 
 -- The ones of the first i of count words that are among the first k bits.
 pub record OnesCounted (ws : List ℕ) (from count k i total : ℕ) : Type 0 where
@@ -61,7 +61,7 @@ module _ {ws : List ℕ} {from count k i total : ℕ} (C : OnesCounted ws from c
 
   -- with the width of a word as a variable, so that its sum stays one
   word-count : (m : ℕ) → m ≡ 64 → getD ws (from + i) 0 % 2 ^ (k - 64 * i) < 2 ^ m →
-      ones (getD ws (from + i) 0 % 2 ^ (k - 64 * i)) ≡ sum m (λ t. among ws from k (64 * i + t))
+      ones (getD ws (from + i) 0 % 2 ^ (k - 64 * i)) ≡ sum m (λ t. amongBits ws from k (64 * i + t))
   word-count m e h =
       popcount m (getD ws (from + i) 0 % 2 ^ (k - 64 * i)) h
       ∙ sum-cong m _ _ (λ t l.
@@ -78,8 +78,8 @@ module _ {ws : List ℕ} {from count k i total : ℕ} (C : OnesCounted ws from c
         counted =
             is
             ∙ ap₂ _+_ (C .counted) (ap ones s ∙ word-count m e (rw s at h))
-            ∙ sym (sum-split (64 * i) m (among ws from k))
-            ∙ sym (ap (λ n. sum n (among ws from k)) w);
+            ∙ sym (sum-split (64 * i) m (amongBits ws from k))
+            ∙ sym (ap (λ n. sum n (amongBits ws from k)) w);
       }
 
   pub counted-more : {x next : ℕ} → x ≡ getD ws (from + i) 0 % 2 ^ (k - 64 * i) → x < 2 ^ 64 → i < count → next ≡ total + ones x →
@@ -91,8 +91,8 @@ module _ {ws : List ℕ} {from count k i total : ℕ} (C : OnesCounted ws from c
       let e : 64 * i ≡ k + (64 * i - k) = omega (arith, C .within) in
       let s : total ≡ sum k (λ j. one (bit ws (64 * from + j))) =
       C .counted
-      ∙ ap (λ n. sum n (among ws from k)) e
-      ∙ sum-split k (64 * i - k) (among ws from k)
+      ∙ ap (λ n. sum n (amongBits ws from k)) e
+      ∙ sum-split k (64 * i - k) (amongBits ws from k)
       ∙ ap₂ _+_
       (sum-cong k _ _ (λ j b. ap (λ t. one (t && bit ws (64 * from + j))) (lt-ltb j k b)))
       (sum-none (64 * i - k) _ (λ j b. ap (λ t. one (t && bit ws (64 * from + (k + j)))) (le-ltb (k + j) k (omega arith))))

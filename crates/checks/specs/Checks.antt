@@ -1,24 +1,16 @@
--- What the answers of the tests say, the table of the ends seen so far, and what degrees grow by.
-use Prim.Native.Nat.{ℕ, _+_, _*_, _-_, _≤_, _<_}
+-- What a check says, and the table of the ends seen so far.
+use Prim.Native.Nat.{ℕ, _+_, _*_, _-_, _≤_}
 use mathlib.Core.Path.{_≡_}
 use mathlib.Core.Bool.{Bool, cond, _&&_}
 use mathlib.Core.List.{List}
-use mathlib.Core.Option.{Option, none, some}
+use mathlib.Core.Option.{some}
 use lib.Dec.{eqb}
 use lib.ListN.{length, getD}
-use Rattle.integers.specs.Sum.{is}
 use Rattle.graph.specs.Limits.{mostVertices}
 use Rattle.graph.specs.Refusal.{Outcome, yields, refuses}
 use Rattle.graph.specs.Graph.{some?}
-use Rattle.checks.specs.declared.Lowest.{Lowest}
-use Rattle.checks.specs.declared.Lowest.the-variants as Lowest
 use Rattle.checks.specs.declared.Check.{Check}
 use Rattle.checks.specs.declared.Check.the-variants as Check
-
--- What a search for the lowest item that breaks a test says.
-abbrev pub lowestSays : Lowest → Option ℕ
-lowestSays (Lowest.At k) = some k
-lowestSays Lowest.Nothing = none
 
 -- What a check says.
 abbrev pub checkSays : Check → Outcome (Unit {0})
@@ -45,7 +37,3 @@ joinedIn row column n r c = some? n (λ e. eqb (getD row e 0) r && eqb (getD col
 pub record Seen (flags row column : List ℕ) (n : ℕ) : Type 0 where
   pub long : length flags ≡ tableFlags
   pub each : (r c : ℕ) → Flagged r → Flagged c → getD flags (flagAt r c) 0 ≡ cond (joinedIn row column n r c) 1 0
-
--- One more edge with these ends: the degrees grow at them by the mark.
-pub record Grown (old new : List ℕ) (first second mark : ℕ) : Type 0 where
-  pub each : (v : ℕ) → v < mostVertices → getD new v 0 ≡ getD old v 0 + mark * (is first v + is second v)

@@ -9,12 +9,12 @@ use lib.ListN.{length, replicate}
 use lib.Signed.{_≤ℤ_}
 use Rattle.graph.specs.Limits.{workspaceNumbers, greatestSolverPrice}
 use Rattle.graph.specs.declared.Fault.{Fault}
-use Rattle.graph.specs.declared.Fault.the-variants.{LentLength}
-use Rattle.graph.specs.Refusal.{Outcome, yields, refuses, Told, tells, refusedWith, numberOf, Test, once, passing}
-use Rattle.graph.specs.Graph.{Graph, vertices}
+use Rattle.graph.specs.Refusal.{Outcome, yields, refuses, Told, tells, refusedWith, numberOf, Test, passing}
+use Rattle.graph.specs.declared.Shape.{Shape}
+use Rattle.graph.specs.Graph.{Graph, shapeOf, vertices, verticesIn}
 use Rattle.graph.specs.Subgraph.{Optimal}
-use Rattle.graph.specs.Tests.{graphLengths, graphTests, boundTest, kindTest}
-use Rattle.graph.specs.Index.{indexNumbers, indexTest}
+use Rattle.graph.specs.Tests.{bipartiteTests}
+use Rattle.graph.specs.Index.{indexNumbersIn, indexTest}
 use Rattle.dual.specs.declared.SolveAnswer.{SolveAnswer}
 use Rattle.dual.specs.declared.SolveAnswer.the-variants as SolveAnswer
 use Rattle.dual.specs.Prices.{Prices, pricesOf, vertexPrice, edgePrice}
@@ -39,16 +39,16 @@ pub record Outputs : Type 0 where
 abbrev pub outputsOf : List ℕ → List ℤ → List ℤ → Outputs
 outputsOf chosen vertex edge = record { chosen = chosen; vertexPrices = vertex; edgePrices = edge }
 
--- What is lent, the index too, has just the lengths that the numbers of vertices and of edges give, and the workspace its own (9).
-abbrev pub solveLengths : Graph → List ℤ → List ℕ → Lent → Bool
-solveLengths g bound index lent =
-    graphLengths g && eqb (length bound) (vertices g) && eqb (length index) (indexNumbers g) && eqb (lent .chosen) (g .edges)
-    && eqb (lent .vertexPrices) (vertices g) && eqb (lent .edgePrices) (g .edges) && eqb (lent .workspace) workspaceNumbers
+-- What is lent besides the graph and its bounds, the index too, has just the lengths that the numbers of vertices and of edges give, and the workspace its own
+-- (9).
+abbrev pub otherLengths : Shape → ℕ → Lent → Bool
+otherLengths s index lent =
+    eqb index (indexNumbersIn s) && eqb (lent .chosen) (s .edges) && eqb (lent .vertexPrices) (verticesIn s) && eqb (lent .edgePrices) (s .edges)
+    && eqb (lent .workspace) workspaceNumbers
 
--- The solver's tests, in their order.
+-- The solver's tests: those of a bipartite graph with bounds, and that the lent index is the graph's (18).
 abbrev pub solverTests : Graph → List ℤ → List ℕ → Lent → List Test
-solverTests g bound index lent =
-    once LentLength (solveLengths g bound index lent) ∷ (graphTests g ++ (boundTest g bound ∷ kindTest g ∷ indexTest g index ∷ []))
+solverTests g bound index lent = bipartiteTests g bound (otherLengths (shapeOf g) (length index) lent) ++ (indexTest g index ∷ [])
 
 -- When the solver refuses. It accepts a graph with its bounds and its index where none of these tests refuses.
 unfoldable pub solve : Graph → List ℤ → List ℕ → Lent → Outcome (Unit {0})

@@ -11,9 +11,9 @@ use lib.ListN.{length, set, length-set}
 use lib.Seq.{getD-set-same, getD-set-other}
 use borrow.Author.Tests.{ltb-true, ltb-false}
 use Rattle.graph.specs.Limits.{mostVertices}
-use Rattle.tree.specs.Method.{topPrice}
-use Rattle.tree.specs.Tree.{entries}
-use Rattle.tree.specs.Front.{Nearest, Shift, Shifted}
+use Rattle.method.specs.Method.{topPrice}
+use Rattle.method.specs.Tree.{entries}
+use Rattle.method.specs.Front.{Nearest, Shift, Shifted}
 use Rattle.dual_step.specs.Step.{NearestAt, Movable}
 
 -- Before the first open vertex, none is found.

@@ -4,9 +4,9 @@ use mathlib.Core.Path.{_≡_}
 use mathlib.Core.List.{List}
 use lib.ListN.{set}
 use Rattle.graph.specs.Limits.{mostVertices}
-use Rattle.tree.specs.Method.{topPrice}
-use Rattle.tree.specs.Tree.{entries}
-use Rattle.tree.specs.Front.{far, Nearest}
+use Rattle.method.specs.Method.{topPrice}
+use Rattle.method.specs.Tree.{entries}
+use Rattle.method.specs.Front.{far, Nearest}
 
 -- The nearest open vertex can be looked for: the list has vertices at the places from count to before reached.
 pub record Searchable (order : ℕ → ℕ) (count reached : ℕ) : Type 0 where

@@ -1,14 +1,14 @@
 // The dual step: the nearest open vertex is settled; when the search is left, the prices move, once for all settled vertices.
 use graph::MOST_VERTICES;
-use tree::MOST_LISTED;
-use tree::pick;
+use integers::pick;
+use method::MOST_LISTED;
 ghost use Prim.Native.Nat.{_+_, _≤_, _<_};
 ghost use mathlib.Core.Path.{_≡_};
 ghost use lib.ListN.{length};
 ghost use Rattle.graph.specs.Limits.{mostVertices};
-ghost use Rattle.tree.specs.Method.{topPrice};
-ghost use Rattle.tree.specs.Tree.{entries};
-ghost use Rattle.tree.specs.Front.{far, Shift, Shifted};
+ghost use Rattle.method.specs.Method.{topPrice};
+ghost use Rattle.method.specs.Tree.{entries};
+ghost use Rattle.method.specs.Front.{far, Shift, Shifted};
 ghost use Rattle.dual_step.specs.Step.{Searchable, NearestAt, Settles, Movable};
 
 // The place of the nearest open vertex, if one is nearer than the goal; else the place after the last one reached.

@@ -42,49 +42,49 @@ diff-nonneg {x} {y} h = omega (order, up-diff y x)
 -- ---- double counting
 
 -- Item v counts edge e c v e times. What the items' prices times their counts of the chosen edges come to is counted by items and by edges.
-pub counted : (n m : ℕ) (c : ℕ → ℕ → ℕ) (x : ℕ → ℕ) (p : ℕ → ℤ) →
+pub counted-by-items : (n m : ℕ) (c : ℕ → ℕ → ℕ) (x : ℕ → ℕ) (p : ℕ → ℤ) →
     sumℤ n (λ v. p v *ℤ pos (sum m (λ e. x e * c v e))) ≡ sumℤ m (λ e. pos (x e) *ℤ sumℤ n (λ v. pos (c v e) *ℤ p v))
-counted n m c x p =
+counted-by-items n m c x p =
     sumℤ-cong n _ _ (λ v l. ap (λ z. p v *ℤ z) (sym (sumℤ-pos m (λ e. x e * c v e))) ∙ sym (sumℤ-scale m (p v) (λ e. pos (x e * c v e))))
     ∙ sumℤ-swap n m (λ v e. p v *ℤ pos (x e * c v e))
     ∙ sumℤ-cong m _ _ (λ e l.
     sumℤ-cong n _ _ (λ v k. *ℤ-comm (p v) (pos (x e * c v e)) ∙ times-times (x e) (c v e) (p v)) ∙ sumℤ-scale n (pos (x e)) (λ v. pos (c v e) *ℤ p v))
 
 -- The slack of items whose limits are b: their limits at their prices, less what is counted.
-pub slack : (n m : ℕ) (c : ℕ → ℕ → ℕ) (x : ℕ → ℕ) (p b : ℕ → ℤ) →
+pub slack-of-items : (n m : ℕ) (c : ℕ → ℕ → ℕ) (x : ℕ → ℕ) (p b : ℕ → ℤ) →
     sumℤ n (λ v. p v *ℤ (b v -ℤ pos (sum m (λ e. x e * c v e))))
     ≡ sumℤ n (λ v. b v *ℤ p v) -ℤ sumℤ m (λ e. pos (x e) *ℤ sumℤ n (λ v. pos (c v e) *ℤ p v))
-slack n m c x p b =
+slack-of-items n m c x p b =
     sumℤ-cong n _ _ (λ v l. times-diff (p v) (b v) (pos (sum m (λ e. x e * c v e))))
     ∙ sumℤ-diff n (λ v. p v *ℤ b v) (λ v. p v *ℤ pos (sum m (λ e. x e * c v e)))
-    ∙ ap₂ _-ℤ_ (sumℤ-cong n _ _ (λ v l. *ℤ-comm (p v) (b v))) (counted n m c x p)
+    ∙ ap₂ _-ℤ_ (sumℤ-cong n _ _ (λ v l. *ℤ-comm (p v) (b v))) (counted-by-items n m c x p)
 
 -- How often vertex v is an end of edge e.
-abbrev pub ends : (ℕ → ℕ) → (ℕ → ℕ) → ℕ → ℕ → ℕ
-ends first second v e = is (first e) v + is (second e) v
+abbrev pub endCount : (ℕ → ℕ) → (ℕ → ℕ) → ℕ → ℕ → ℕ
+endCount first second v e = is (first e) v + is (second e) v
 
 module _ (n m : ℕ) (first second : ℕ → ℕ) (firstIn : (e : ℕ) → e < m → first e < n) (secondIn : (e : ℕ) → e < m → second e < n) where
   -- An edge is counted by its two ends.
-  at-ends : (p : ℕ → ℤ) (e : ℕ) → e < m → sumℤ n (λ v. pos (ends first second v e) *ℤ p v) ≡ p (first e) +ℤ p (second e)
+  at-ends : (p : ℕ → ℤ) (e : ℕ) → e < m → sumℤ n (λ v. pos (endCount first second v e) *ℤ p v) ≡ p (first e) +ℤ p (second e)
   at-ends p e l =
       sumℤ-cong n _ _ (λ v k. add-times (is (first e) v) (is (second e) v) (p v))
       ∙ sumℤ-add n (λ v. pos (is (first e) v) *ℤ p v) (λ v. pos (is (second e) v) *ℤ p v)
       ∙ ap₂ _+ℤ_ (sumℤ-at n (first e) p (firstIn e l)) (sumℤ-at n (second e) p (secondIn e l))
 
   by-ends : (x : ℕ → ℕ) (p : ℕ → ℤ) →
-      sumℤ m (λ e. pos (x e) *ℤ sumℤ n (λ v. pos (ends first second v e) *ℤ p v)) ≡ sumℤ m (λ e. pos (x e) *ℤ (p (first e) +ℤ p (second e)))
+      sumℤ m (λ e. pos (x e) *ℤ sumℤ n (λ v. pos (endCount first second v e) *ℤ p v)) ≡ sumℤ m (λ e. pos (x e) *ℤ (p (first e) +ℤ p (second e)))
   by-ends x p = sumℤ-cong m _ _ (λ e l. ap (λ z. pos (x e) *ℤ z) (at-ends p e l))
 
   -- The handshake: prices times degrees come to the prices of the chosen edges' ends.
   pub handshakeℤ : (x : ℕ → ℕ) (p : ℕ → ℤ) →
-      sumℤ n (λ v. p v *ℤ pos (sum m (λ e. x e * ends first second v e))) ≡ sumℤ m (λ e. pos (x e) *ℤ (p (first e) +ℤ p (second e)))
-  handshakeℤ x p = counted n m (ends first second) x p ∙ by-ends x p
+      sumℤ n (λ v. p v *ℤ pos (sum m (λ e. x e * endCount first second v e))) ≡ sumℤ m (λ e. pos (x e) *ℤ (p (first e) +ℤ p (second e)))
+  handshakeℤ x p = counted-by-items n m (endCount first second) x p ∙ by-ends x p
 
   pub handshake : (x f : ℕ → ℕ) →
-      sum n (λ v. f v * sum m (λ e. x e * ends first second v e)) ≡ sum m (λ e. x e * (f (first e) + f (second e)))
+      sum n (λ v. f v * sum m (λ e. x e * endCount first second v e)) ≡ sum m (λ e. x e * (f (first e) + f (second e)))
   handshake x f =
       ap up
-      (sym (sumℤ-pos n (λ v. f v * sum m (λ e. x e * ends first second v e)))
+      (sym (sumℤ-pos n (λ v. f v * sum m (λ e. x e * endCount first second v e)))
       ∙ handshakeℤ x (λ v. pos (f v))
       ∙ sumℤ-pos m (λ e. x e * (f (first e) + f (second e))))
 
@@ -106,7 +106,7 @@ pub record Program : Type 0 where
   pub edgePrice : ℕ → ℤ
 
 abbrev pub degreeIn : Program → (ℕ → ℕ) → ℕ → ℕ
-degreeIn D x v = sum (D .edges) (λ e. x e * ends (D .first) (D .second) v e)
+degreeIn D x v = sum (D .edges) (λ e. x e * endCount (D .first) (D .second) v e)
 
 abbrev pub chosenCoveredIn : Program → (ℕ → ℕ) → ℕ → ℕ
 chosenCoveredIn D x s = sum (D .edges) (λ e. x e * D .covers s e)
@@ -162,7 +162,7 @@ module _ (D : Program) (firstIn : (e : ℕ) → e < D .edges → D .first e < D 
     (x : ℕ → ℕ) (marks : (e : ℕ) → e < D .edges → x e ≤ 1) where
   of-vertices : vertexSlackIn D x ≡ sumℤ (D .vertices) (payIn D) -ℤ endsPaid D x
   of-vertices =
-      slack (D .vertices) (D .edges) (ends (D .first) (D .second)) x (D .vertexPrice) (D .bound)
+      slack-of-items (D .vertices) (D .edges) (endCount (D .first) (D .second)) x (D .vertexPrice) (D .bound)
       ∙ ap (λ z. sumℤ (D .vertices) (payIn D) -ℤ z)
       (by-ends (D .vertices) (D .edges) (D .first) (D .second) firstIn secondIn x (D .vertexPrice))
 
@@ -196,7 +196,7 @@ module _ (D : Program) (firstIn : (e : ℕ) → e < D .edges → D .first e < D 
       (setsPaid D x)
       (edgesPaid D x)
       (weightOfIn D x)
-      ∙ sym (ap₂ _+ℤ_ (ap₂ _+ℤ_ (ap₂ _+ℤ_ of-vertices (slack (D .sets) (D .edges) (D .covers) x (D .setPrice) (D .capacity))) of-edges) of-cover)
+      ∙ sym (ap₂ _+ℤ_ (ap₂ _+ℤ_ (ap₂ _+ℤ_ of-vertices (slack-of-items (D .sets) (D .edges) (D .covers) x (D .setPrice) (D .capacity))) of-edges) of-cover)
     where
       cancel : (a b c h s f w : ℤ) → (a +ℤ b +ℤ c) -ℤ w ≡ (a -ℤ h) +ℤ (b -ℤ s) +ℤ (c -ℤ f) +ℤ ((h +ℤ f +ℤ s) -ℤ w)
       cancel a b c h s f w =
@@ -282,7 +282,7 @@ at-most (suc (suc k)) j h = absurd (omega arith)
 -- A set marks edges and has vertices inside, and a marked edge has one end inside. Twice the chosen edges that it covers are at most its load: the
 -- bounds of its vertices and the number of its marked edges.
 module _ (n m : ℕ) (first second : ℕ → ℕ) (firstIn : (e : ℕ) → e < m → first e < n) (secondIn : (e : ℕ) → e < m → second e < n)
-    (x : ℕ → ℕ) (marks : (e : ℕ) → e < m → x e ≤ 1) (bound : ℕ → ℕ) (within : (v : ℕ) → v < n → sum m (λ e. x e * ends first second v e) ≤ bound v)
+    (x : ℕ → ℕ) (marks : (e : ℕ) → e < m → x e ≤ 1) (bound : ℕ → ℕ) (within : (v : ℕ) → v < n → sum m (λ e. x e * endCount first second v e) ≤ bound v)
     (inside marked : ℕ → Bool) (oneEnd : (e : ℕ) → e < m → marked e ≡ true → one (inside (first e)) + one (inside (second e)) ≡ 1) where
   abbrev endsCounted : ℕ → ℕ
   endsCounted e = one (inside (first e)) + one (inside (second e))
@@ -308,6 +308,6 @@ module _ (n m : ℕ) (first second : ℕ → ℕ) (firstIn : (e : ℕ) → e < m
         split,
         sum-mono m (λ e. x e * one (marked e)) (λ e. one (marked e)) (λ e l. at-most (x e) (one (marked e)) (marks e l)),
         handshake n m first second firstIn secondIn x (λ v. one (inside v)),
-        sum-mono n (λ v. one (inside v) * sum m (λ e. x e * ends first second v e)) (λ v. one (inside v) * bound v)
+        sum-mono n (λ v. one (inside v) * sum m (λ e. x e * endCount first second v e)) (λ v. one (inside v) * bound v)
             (λ v l. mul-le-mul-left (one (inside v)) (within v l)),
       )

@@ -1,7 +1,7 @@
 -- What a call's tests have shown once they have passed, test by test.
 use Prim.Native.Nat.{ℕ, _+_, _*_, _-_, _≤_, _<_}
 use mathlib.Core.Path.{_≡_, refl, sym, ap, _∙_, subst}
-use mathlib.Core.Bool.{true, not, _||_, true≢false}
+use mathlib.Core.Bool.{true, not, _&&_, _||_, true≢false}
 use mathlib.Core.List.{List, [], _∷_, _++_}
 use native.Mathlib.Omega.{arith}
 use native.Mathlib.Decide.{decLt}
@@ -16,7 +16,7 @@ use Rattle.graph.specs.declared.Kind.{Kind}
 use Rattle.graph.specs.declared.Kind.the-variants.{Bipartite, General}
 use Rattle.graph.specs.Limits.{greatestPrice, vertexWords, edgeWords, workspaceNumbers}
 use Rattle.graph.specs.Refusal.{yields}
-use Rattle.graph.specs.Graph.{Graph, vertices, columnVertex, columnAt, firstEnd, secondEnd, boundAt, upTo, sizesInRange, priceInRange}
+use Rattle.graph.specs.Graph.{Graph, shapeOf, vertices, columnVertex, columnAt, firstEnd, secondEnd, boundAt, upTo, sizesInRange, priceInRange}
 use Rattle.graph.specs.Index.{indexNumbers, indexTest}
 use Rattle.graph.specs.Subgraph.{Feasible, markAt, degree}
 use Rattle.graph.specs.Tests.{graphLengths, graphTests, boundTest, kindTest, isBipartite, markTest, degreeTest}
@@ -29,7 +29,7 @@ use Rattle.dual.specs.Prices.{Prices, vertexPrice, edgePrice, setPrice, allPric
 use Rattle.dual.specs.Sets.{OddSets, marked, nothingAbove, hasVertex, endsInside, oneEndInside, isOdd, keepsRules}
 use Rattle.dual.specs.Gap.{worthAt, coverOf}
 use Rattle.dual.specs.Measure.{measure, measures, measureLengths, measureTests, priceTest, setTest, coverTest}
-use Rattle.dual.specs.Solve.{Lent, solve, solverTests}
+use Rattle.dual.specs.Solve.{Lent, otherLengths, solve, solverTests}
 use Rattle.dual.specs.Passed.{PriceLengths}
 use Rattle.duality.proofs.Conditions.{Incident, DualFeasible}
 
@@ -241,26 +241,28 @@ pub solve-passed : (g : Graph) (bound : List ℤ) (index : List ℕ) (lent : Len
 unfolding solve
 solve-passed g bound index lent e =
     let p = passes (solverTests g bound index lent) (yields tt) tt e in
+    let others = otherLengths (shapeOf g) (length index) lent in
+    let first = both (graphLengths g) (eqb (length bound) (vertices g) && others) (p .0 .0 0 (omega arith)) in
+    let second = both (eqb (length bound) (vertices g)) others (first .1) in
     let lengths =
-    held (graphLengths g)
-    (eqb (length bound) (vertices g) ∷ eqb (length index) (indexNumbers g) ∷ eqb (lent .chosen) (g .edges) ∷ eqb (lent .vertexPrices) (vertices g)
-    ∷ eqb (lent .edgePrices) (g .edges) ∷ eqb (lent .workspace) workspaceNumbers ∷ [])
-    (p .0 .0 0 (omega arith)) in
+    held (eqb (length index) (indexNumbers g))
+    (eqb (lent .chosen) (g .edges) ∷ eqb (lent .vertexPrices) (vertices g) ∷ eqb (lent .edgePrices) (g .edges) ∷ eqb (lent .workspace) workspaceNumbers ∷ [])
+    (second .1) in
     let later = passes-split (graphTests g) (boundTest g bound ∷ kindTest g ∷ indexTest g index ∷ []) (p .0 .1) in
-    let passed = graph-passed g (lengths .0) (later .0) in
+    let passed = graph-passed g (first .0) (later .0) in
     let sides = bipartite-true (g .kind) (g .rows) (g .columns) (g .edges) (later .1 .1 .0 0 (omega arith)) (later .0 .0 0 (omega arith)) in
     record {
       passed = passed;
-      bounded = bounds-passed g bound (eqb-true (length bound) (vertices g) (lengths .1 .0)) (later .1 .0, tt);
+      bounded = bounds-passed g bound (eqb-true (length bound) (vertices g) (second .0)) (later .1 .0, tt);
       bipartite = sides .bipartite;
-      indexLong = eqb-true (length index) (indexNumbers g) (lengths .1 .1 .0);
+      indexLong = eqb-true (length index) (indexNumbers g) (lengths .0);
       indexPasses = later .1 .1 .1;
       fewRows = sides .fewRows;
       fewColumns = sides .fewColumns;
       rowSide = λ e l. passed .sound .ends e l .inRows;
       columnSide = λ e l. sides .columnSide (columnAt g e);
-      chosenLong = eqb-true (lent .chosen) (g .edges) (lengths .1 .1 .1 .0);
-      vertexLong = eqb-true (lent .vertexPrices) (vertices g) (lengths .1 .1 .1 .1 .0);
-      edgeLong = eqb-true (lent .edgePrices) (g .edges) (lengths .1 .1 .1 .1 .1 .0);
-      workspaceLong = eqb-true (lent .workspace) workspaceNumbers (lengths .1 .1 .1 .1 .1 .1 .0);
+      chosenLong = eqb-true (lent .chosen) (g .edges) (lengths .1 .0);
+      vertexLong = eqb-true (lent .vertexPrices) (vertices g) (lengths .1 .1 .0);
+      edgeLong = eqb-true (lent .edgePrices) (g .edges) (lengths .1 .1 .1 .0);
+      workspaceLong = eqb-true (lent .workspace) workspaceNumbers (lengths .1 .1 .1 .1 .0);
     }

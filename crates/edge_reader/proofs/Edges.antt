@@ -96,9 +96,9 @@ turn-starts r sizes Z seen flags = record {
 }
 
 -- One number more in an output.
-takes : {N : Type 0} (z : N) {out : List N} (xs : List N) {i : ℕ} (x y : N) → out ≡ filled 1024 z xs → length xs ≡ i → i < 1024 → y ≡ x →
+edge-taken : {N : Type 0} (z : N) {out : List N} (xs : List N) {i : ℕ} (x y : N) → out ≡ filled 1024 z xs → length xs ≡ i → i < 1024 → y ≡ x →
     set out i y ≡ filled 1024 z (xs ++ (x ∷ []))
-takes z xs {i} x y holds count below same =
+edge-taken z xs {i} x y holds count below same =
     ap₂ (λ o v. set o i v) holds same
     ∙ ap (λ k. set (filled 1024 z xs) k x) (sym count)
     ∙ filled-more 1024 z xs x (omega arith)
@@ -180,10 +180,10 @@ module _ {what : EdgeText} {t : Shape} {s : List ℕ} {W : Outcome Graph} {j k m
           weightCount = counts (T .weightsRead) w (T .weightCount);
           room = omega (arith, turn-next .more, T .rowCount);
           sizes = T .sizes;
-          rowHolds = takes 0 (T .rowsRead) p p (T .rowHolds) (T .rowCount) turn-below refl;
-          columnHolds = takes 0 (T .columnsRead) q q (T .columnHolds) (T .columnCount) turn-below refl;
+          rowHolds = edge-taken 0 (T .rowsRead) p p (T .rowHolds) (T .rowCount) turn-below refl;
+          columnHolds = edge-taken 0 (T .columnsRead) q q (T .columnHolds) (T .columnCount) turn-below refl;
           weightHolds =
-              takes (pos 0) (T .weightsRead) w (toZ w32 (ofZ w32 w)) (T .weightHolds) (T .weightCount) turn-below
+              edge-taken (pos 0) (T .weightsRead) w (toZ w32 (ofZ w32 w)) (T .weightHolds) (T .weightCount) turn-below
               (toZ-ofZ {w = w32} (fits-within w32 w (weight-hold w (turn-next .ranged .weight)) (lit< tt)));
           flags = seen-append i new p q (T .flags) put (T .rowCount) (T .columnCount) (turn-flagged .0) (turn-flagged .1);
           rowSame = length-set row i p ∙ T .rowSame;

@@ -6,14 +6,12 @@ use mathlib.Core.List.{List}
 use mathlib.Core.Option.{Option, none, some, Option·map}
 use native.Mathlib.Omega.{arith}
 use lib.Dec.{ltb, lit<}
-use lib.IntN.{ℤ, pos, negsuc, negℤ, negℤ-negℤ, _-ℤ_}
+use lib.IntN.{ℤ, pos, negsuc, negℤ, negℤ-negℤ}
 use lib.ListN.{length}
 use mir.Syntax.{w32}
 use mir.Val.{SFits, toZ, ofZ}
 use mir.Facts.{toZ-ofZ}
-use Rattle.integers.specs.Integer.{Within}
-use Rattle.integers.proofs.Order.{up-neg, up-diff, up-eq, up-le, le-between, within-diff, fits-within}
-use Rattle.graph.specs.Limits.{greatestWeight}
+use Rattle.integers.proofs.Order.{up-neg, up-le, le-between}
 use Rattle.graph.specs.declared.Shape.{Shape}
 use Rattle.graph.specs.declared.Fault.the-variants.{LaterLine, Ends, Weight, SameEnds, AssignmentLine}
 use Rattle.graph.proofs.Passing.{zero-one}
@@ -32,7 +30,8 @@ use Rattle.text.specs.declared.EdgeLine.the-variants as EdgeLine
 use Rattle.text.specs.Cursor.{pairSays, edgeLineSays}
 use Rattle.text.specs.declared.Pair.{Pair}
 use Rattle.text.specs.declared.Pair.the-variants as Pair
-use Rattle.text.proofs.Integers.{plus-fits, edge-fits}
+use Rattle.text.proofs.Shapes.{edge-fits}
+use Rattle.numerals.proofs.Integers.{plus-fits}
 use Rattle.entries.specs.declared.Entry.{Entry}
 use Rattle.entries.specs.declared.Entry.the-variants as Entry
 use Rattle.entries.specs.Entries.{entrySays}
@@ -42,25 +41,25 @@ use Rattle.edge_reader.specs.declared.TextEdge.{TextEdge}
 use Rattle.edge_reader.specs.declared.TextEdge.the-variants as TextEdge
 
 -- The words of a later line. Without weights the weight is 0.
-abbrev weightless : ℕ × ℕ → ℕ × ℕ × ℤ
-weightless e = (e .0, e .1, pos 0)
+abbrev no-weights : ℕ × ℕ → ℕ × ℕ × ℤ
+no-weights e = (e .0, e .1, pos 0)
 
 module _ (rules : Rules) (ws : List (List ℕ)) {p : Pair} (says : pairSays p ≡ twoWords (natural rules) (natural rules) ws) where
   pub pattern-bad : p ≡ Pair.Bad → none ≡ edgeOn rules Field.Pattern ws
-  pattern-bad is = ap (Option·map weightless) (sym (ap pairSays is) ∙ says)
+  pattern-bad is = ap (Option·map no-weights) (sym (ap pairSays is) ∙ says)
 
   pub pattern-is : {r c : ℕ} → p ≡ Pair.Is r c → some (r, c, pos 0) ≡ edgeOn rules Field.Pattern ws
-  pattern-is is = ap (Option·map weightless) (sym (ap pairSays is) ∙ says)
+  pattern-is is = ap (Option·map no-weights) (sym (ap pairSays is) ∙ says)
 
 -- The weight fits an `i32`.
 weight-fits : (rules : Rules) (field : Field) (ws : List (List ℕ)) (r c : ℕ) (w : ℤ) → edgeOn rules field ws ≡ some (r, c, w) → SFits w32 w
 weight-fits rules Field.Integer ws r c w e = edge-fits rules ws r c w e
 weight-fits rules Field.Pattern ws r c w e = go (twoWords (natural rules) (natural rules) ws) e
   where
-    go : (o : Option (ℕ × ℕ)) → Option·map weightless o ≡ some (r, c, w) → SFits w32 w
+    go : (o : Option (ℕ × ℕ)) → Option·map no-weights o ≡ some (r, c, w) → SFits w32 w
     go none e = zero-one (cc)
     go (some p) e =
-        let q : _≡_ {A = ℕ × ℕ × ℤ} (weightless p) (r, c, w) = cc in
+        let q : _≡_ {A = ℕ × ℕ × ℤ} (no-weights p) (r, c, w) = cc in
         subst (SFits w32) (ap (λ (t : ℕ × ℕ × ℤ). t .2) q) (plus-fits 0 (lit< tt))
 
 -- An edge r, c, w that is read as o, by the tests of its ends and of its weight.
@@ -123,17 +122,6 @@ weight-negated z = go (weightInRange z) (weightInRange (negℤ z)) (negated-rang
     go true b f g = sym (f refl)
     go false true f g = g refl
     go false false f g = refl
-
--- The difference of two numbers that are no greater than weights fits an `i32`; taken off 0, a cost gives its weight.
-module _ (x y : ℤ) (p : Within greatestWeight x) (q : Within greatestWeight y) where
-  pub difference-fits : SFits w32 (x -ℤ y)
-  difference-fits = fits-within w32 (x -ℤ y) (within-diff x y p q) (lit< tt)
-
-  pub difference-is : toZ w32 (ofZ w32 (x -ℤ y)) ≡ x -ℤ y
-  difference-is = toZ-ofZ {w = w32} difference-fits
-
-pub zero-minus : (z : ℤ) → pos 0 -ℤ z ≡ negℤ z
-zero-minus z = up-eq (pos 0 -ℤ z) (negℤ z) (omega (arith, up-diff (pos 0) z, up-neg z))
 
 -- A line after the first arc, where `more` says whether an arc is still to come, does what the edge r says.
 abbrev ArcDoes : List ℕ → Shape → Bool → TextEdge → Type 0

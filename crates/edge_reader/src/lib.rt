@@ -18,10 +18,9 @@ ghost use mathlib.Core.Bool.{true};
 ghost use mathlib.Core.List.{List};
 ghost use mathlib.Core.Option.{some};
 ghost use lib.Dec.{ltb};
-ghost use lib.IntN.{ℤ, negℤ, _-ℤ_};
+ghost use lib.IntN.{ℤ, negℤ};
 ghost use lib.ListN.{length};
-ghost use Rattle.integers.specs.Integer.{Within};
-ghost use Rattle.graph.specs.Limits.{mostEdges, greatestWeight};
+ghost use Rattle.graph.specs.Limits.{mostEdges};
 ghost use Rattle.graph.specs.Graph.{graphOf, shapeInRange};
 ghost use Rattle.layout.specs.Text.{words};
 ghost use Rattle.layout.specs.GraphText.{noEdges, edgeOn, graphEdge};
@@ -40,9 +39,9 @@ pub enum EdgeText {
 pub fn clear(row: &mut [u32], column: &mut [u32], weight: &mut [i32])
     ensures { λ _. ⌜ Cleared (length (now (row .entry))) (length (now (column .entry))) (length (now (weight .entry))) (now (row .exit)) (now (column .exit)) (now (weight .exit)) ⌝ }
 {
-    lent::clear_naturals(row);
-    lent::clear_naturals(column);
-    lent::clear_integers(weight);
+    filling::clear_naturals(row);
+    filling::clear_naturals(column);
+    filling::clear_integers(weight);
 }
 
 // The row, the column and the weight on an edge's line, which the text has from `start` to `end`. Without weights the weight is 0.
@@ -72,7 +71,14 @@ enum TextEdge {
 }
 
 // A later line of a text of coordinates, from `start` to `end`.
-fn edge_on(text: &[u8], start: usize, end: usize, s: Shape, rules: Rules, field: Field) -> TextEdge
+fn coordinate_on(
+    text: &[u8],
+    start: usize,
+    end: usize,
+    s: Shape,
+    rules: Rules,
+    field: Field,
+) -> TextEdge
     requires { ⌜ (start ≤ end) × (end ≤ length (now text)) ⌝ }
     ensures says { λ r. ⌜ ((row column : List ℕ) (weight : List ℤ) → edgeSays (graphOf s row column weight) r ≡ graphEdge (graphOf s row column weight) (edgeOn rules field (words (part (now (text .entry)) start end)))) ⌝ }
     ensures ranged { λ r. ⌜ EdgeInRange s r ⌝ }
@@ -85,10 +91,10 @@ fn edge_on(text: &[u8], start: usize, end: usize, s: Shape, rules: Rules, field:
     else {
         return TextEdge::Refused(Fault::LaterLine);
     };
-    if !checks::ends_in_range(s, row, column) {
+    if !ranges::ends_in_range(s, row, column) {
         return TextEdge::Refused(Fault::Ends);
     }
-    if !checks::weight_in_range(weight) {
+    if !ranges::weight_in_range(weight) {
         return TextEdge::Refused(Fault::Weight);
     }
     TextEdge::Is {
@@ -98,45 +104,27 @@ fn edge_on(text: &[u8], start: usize, end: usize, s: Shape, rules: Rules, field:
     }
 }
 
-// How many of the first nodes are beyond the rows; 0 where none is.
-pub fn beyond(nodes: u32, rows: u32) -> u32
-    ensures { λ r. ⌜ r ≡ nodes - rows ⌝ }
-{
-    if nodes < rows {
-        return 0;
-    }
-    nodes - rows
-}
-
-// a - b, of numbers that are no greater than weights.
-fn difference(a: i32, b: i32) -> i32
-    requires { ⌜ Within greatestWeight a × Within greatestWeight b ⌝ }
-    ensures { λ r. ⌜ r ≡ a -ℤ b ⌝ }
-{
-    a - b
-}
-
 // An arc by its nodes and its cost, which is the weight negated. A column is a node's place beyond the rows, and a cost is in range just where the weight is.
 fn arc_edge(s: Shape, source: u32, target: u32, cost: i32) -> TextEdge
     ensures says { λ r. ⌜ ((row column : List ℕ) (weight : List ℤ) → edgeSays (graphOf s row column weight) r ≡ graphEdge (graphOf s row column weight) (some (source, target - s .rows, negℤ cost))) ⌝ }
     ensures ranged { λ r. ⌜ EdgeInRange s r ⌝ }
 {
-    let column = beyond(target, s.rows);
-    if !checks::ends_in_range(s, source, column) {
+    let column = nodes::column_of(target, s.rows);
+    if !ranges::ends_in_range(s, source, column) {
         return TextEdge::Refused(Fault::Ends);
     }
-    if !checks::weight_in_range(cost) {
+    if !ranges::weight_in_range(cost) {
         return TextEdge::Refused(Fault::Weight);
     }
     TextEdge::Is {
         row: source,
         column,
-        weight: difference(0, cost),
+        weight: nodes::weight_at_cost(cost),
     }
 }
 
 // A line of an assignment text after its first arc, where `more` says whether an arc is still to come.
-fn arc_on(line: &[u8], s: Shape, more: bool) -> TextEdge
+fn wanted_arc(line: &[u8], s: Shape, more: bool) -> TextEdge
     ensures says { λ r. ⌜ ((k : ℕ) (row column : List ℕ) (weight : List ℤ) → ltb (length row) (s .edges) ≡ more → onEntry k (joining (graphOf s row column weight)) (entryOn (now (line .entry))) ≡ placed k (edgeSays (graphOf s row column weight) r)) ⌝ }
     ensures ranged { λ r. ⌜ EdgeInRange s r ⌝ }
     ensures wanted { λ r. ⌜ Wanted more r ⌝ }
@@ -206,19 +194,9 @@ fn next_coordinate(
         Later::Done => NextEdge::Done,
         Later::Refused(r) => NextEdge::Refused(r),
         Later::At { start, end, next } => {
-            brings(edge_on(text, start, end, s, rules, field), next)
+            brings(coordinate_on(text, start, end, s, rules, field), next)
         },
     }
-}
-
-// A line of an assignment text that is missing or too long.
-fn wrong_line(place: u64) -> NextEdge
-    ensures { λ r. ⌜ r ≡ NextEdge.Refused (record { fault = Fault.AssignmentLine; place = place }) ⌝ }
-{
-    NextEdge::Refused(Refusal {
-        fault: Fault::AssignmentLine,
-        place,
-    })
 }
 
 // The next arc of an assignment text.
@@ -227,14 +205,14 @@ fn next_arc(text: &[u8], c: Cursor, more: bool, s: Shape) -> NextEdge
     ensures { λ r. ⌜ ((row column : List ℕ) (weight : List ℤ) → ltb (length row) (s .edges) ≡ more → NextAs EdgeText.Assignment (now (text .entry)) c (graphOf s row column weight) r) ⌝ }
 {
     match lines::entry_line(text, c) {
-        FoundLine::At { start, end, next } => brings(arc_on(&text[start..end], s, more), next),
+        FoundLine::At { start, end, next } => brings(wanted_arc(&text[start..end], s, more), next),
         FoundLine::Ended(place) => {
             if more {
-                return wrong_line(place);
+                return NextEdge::Refused(lines::wrong_line(place));
             }
             NextEdge::Done
         }
-        FoundLine::Long(place) => wrong_line(place),
+        FoundLine::Long(place) => NextEdge::Refused(lines::wrong_line(place)),
     }
 }
 

@@ -1,7 +1,8 @@
 -- What a line of an assignment text is, by its letter and the words after it.
-use Prim.Native.Nat.{ℕ, _-_}
+use Prim.Native.Nat.{ℕ, suc, _+_, _-_}
 use mathlib.Core.Path.{_≡_, refl, sym, ap, _∙_, subst}
-use mathlib.Core.Bool.{Bool, true, false, cond}
+use mathlib.Core.Bool.{Bool, true, false, not, cond}
+use native.Mathlib.Omega.{arith}
 use mathlib.Core.List.{List, [], _∷_}
 use mathlib.Core.Option.{Option, none, some, Option·map}
 use lib.IntN.{ℤ}
@@ -11,16 +12,18 @@ use mir.Val.{SFits, toZ, ofZ}
 use mir.Facts.{toZ-ofZ}
 use Rattle.graph.proofs.Passing.{zero-one}
 use Rattle.layout.specs.declared.Rules.the-variants.{New}
-use Rattle.layout.specs.Text.{bytes, words, natural, integer, oneWord, twoWords, threeWords, same, begins}
+use Rattle.layout.specs.Text.{blank, bytes, words, natural, integer, oneWord, twoWords, threeWords, same, begins}
 use Rattle.layout.specs.AssignmentText.{Entry, problem, source, arc, problemSizes, problemOf, sourceOf, arcOf, entryWords, entryOn}
-use Rattle.text.specs.declared.Natural.{Natural}
+use Rattle.spelling.specs.declared.Natural.{Natural}
 use Rattle.text.specs.declared.Pair.{Pair}
 use Rattle.text.specs.declared.EdgeLine.{EdgeLine}
 use Rattle.text.specs.declared.EdgeLine.the-variants as EdgeLine
-use Rattle.text.specs.declared.Key.{Key}
-use Rattle.text.specs.declared.Key.the-variants as Key
-use Rattle.text.specs.Cursor.{wordAt, naturalSays, pairSays, edgeLineSays, firstIs, FirstAt, FirstWord}
-use Rattle.text.proofs.Integers.{edge-fits}
+use Rattle.keywords.specs.declared.Key.{Key}
+use Rattle.keywords.specs.declared.Key.the-variants as Key
+use Rattle.spelling.specs.Spelling.{naturalSays}
+use Rattle.keywords.specs.Keywords.{firstIs, FirstAt, FirstWord}
+use Rattle.text.specs.Cursor.{run, past, wordAt, pairSays, edgeLineSays}
+use Rattle.text.proofs.Shapes.{edge-fits}
 use Rattle.text.proofs.Pieces.{word-begins}
 use Rattle.text.proofs.Shapes.{rest-lent}
 
@@ -72,7 +75,20 @@ pub entry-blank : (l : List ℕ) → begins l ≡ false → none ≡ entryOn l
 unfolding entryOn
 entry-blank l h = sym (ap (λ (b : Bool). cond b (entryWords (words l)) none) h)
 
-module _ (l : List ℕ) (h : begins l ≡ true) {w : List ℕ} (is : w ≡ wordAt l 0) where
+-- No blank stands before the word that begins a line.
+no-blank : (l : List ℕ) → begins l ≡ true → run blank l ≡ 0
+unfolding run
+no-blank [] h = refl
+no-blank (x ∷ xs) h = ap (λ (b : Bool). cond b (suc (run blank xs)) 0) (go (blank x) h)
+  where
+    go : (b : Bool) → not b ≡ true → b ≡ false
+    go true e = zero-one (cc)
+    go false e = refl
+
+module _ (l : List ℕ) (h : begins l ≡ true) {start : ℕ} (found : start ≡ past blank l 0) {w : List ℕ} (is : w ≡ wordAt l start) where
+  here : start ≡ 0
+  here = omega (arith, found, no-blank l h)
+
   abbrev after : List (List ℕ)
   after = words (drop (length w) l)
 
@@ -81,21 +97,27 @@ module _ (l : List ℕ) (h : begins l ≡ true) {w : List ℕ} (is : w ≡ wordA
   unfolding entryOn
   by-letter p n a ep en ea =
       sym
-      (ap (λ (b : Bool). cond b (entryWords (words l)) none) h ∙ ap entryWords (word-begins l h w is)
+      (ap (λ (b : Bool). cond b (entryWords (words l)) none) h ∙ ap entryWords (word-begins l h w (is ∙ ap (wordAt l) here))
       ∙ rw (ep, en, ea) refl)
 
-  lent : {A : Type 0} (f : List (List ℕ) → A) → f (words (take (length l - length w) (drop (length w) l))) ≡ f after
-  lent f = ap (λ (m : List ℕ). f (words m)) (rest-lent l (length w))
+  -- What is left of the line after the letter.
+  abbrev rest : List (List ℕ)
+  rest = words (take (length l - (start + length w)) (drop (start + length w) l))
 
-  pub letter-p : same w (bytes "p") ≡ true → {o : Option Entry} → o ≡ problemOf (words (take (length l - length w) (drop (length w) l))) → o ≡ entryOn l
+  lent : {A : Type 0} (f : List (List ℕ) → A) → f rest ≡ f after
+  lent f =
+      let at : start + length w ≡ length w = omega (arith, here) in
+      ap (λ k. f (words (take (length l - k) (drop k l)))) at ∙ ap (λ (m : List ℕ). f (words m)) (rest-lent l (length w))
+
+  pub letter-p : same w (bytes "p") ≡ true → {o : Option Entry} → o ≡ problemOf rest → o ≡ entryOn l
   letter-p e q = q ∙ lent problemOf ∙ by-letter true (same w (bytes "n")) (same w (bytes "a")) e refl refl
 
   module _ (np : same w (bytes "p") ≡ false) where
-    pub letter-n : same w (bytes "n") ≡ true → {o : Option Entry} → o ≡ sourceOf (words (take (length l - length w) (drop (length w) l))) → o ≡ entryOn l
+    pub letter-n : same w (bytes "n") ≡ true → {o : Option Entry} → o ≡ sourceOf rest → o ≡ entryOn l
     letter-n e q = q ∙ lent sourceOf ∙ by-letter false true (same w (bytes "a")) np e refl
 
     module _ (nn : same w (bytes "n") ≡ false) where
-      pub letter-a : same w (bytes "a") ≡ true → {o : Option Entry} → o ≡ arcOf (words (take (length l - length w) (drop (length w) l))) → o ≡ entryOn l
+      pub letter-a : same w (bytes "a") ≡ true → {o : Option Entry} → o ≡ arcOf rest → o ≡ entryOn l
       letter-a e q = q ∙ lent arcOf ∙ by-letter false false true np nn e
 
       pub letter-other : same w (bytes "a") ≡ false → none ≡ entryOn l

@@ -1,11 +1,11 @@
 // The lines of an assignment text that are neither blank nor comments: the problem line, source nodes and arcs.
+use keywords::Key;
 use layout::Rules;
+use spelling::Natural;
 use text::EdgeLine;
-use text::Key;
-use text::Natural;
 use text::Pair;
 ghost use mathlib.Core.Path.{_≡_};
-ghost use Rattle.layout.specs.Text.{words};
+ghost use Rattle.layout.specs.Text.{words, same};
 ghost use Rattle.layout.specs.AssignmentText.{problemOf, sourceOf, arcOf, entryOn};
 ghost use Rattle.entries.specs.Entries.{entrySays};
 
@@ -21,7 +21,7 @@ pub enum Entry {
 fn problem_on(rest: &[u8]) -> Entry
     ensures { λ r. ⌜ entrySays r ≡ problemOf (words (now (rest .entry))) ⌝ }
 {
-    let Key::After(at) = text::first_word(rest, b"asn") else {
+    let Key::After(at) = keywords::first_word(rest, b"asn") else {
         return Entry::Bad;
     };
     let Pair::Is(nodes, arcs) = text::two_naturals(&rest[at..], Rules::New) else {
@@ -59,22 +59,30 @@ fn arc_on(rest: &[u8]) -> Entry
     }
 }
 
+// The word w is the letter k, its case kept.
+fn is_letter(w: &[u8], k: &[u8]) -> bool
+    ensures { λ r. ⌜ r ≡ same (now (w .entry)) (now (k .entry)) ⌝ }
+{
+    keywords::same_word(w, k)
+}
+
 // A line by its first word, a letter that begins it.
 pub fn entry_on(line: &[u8]) -> Entry
     ensures { λ r. ⌜ entrySays r ≡ entryOn (now (line .entry)) ⌝ }
 {
-    if !text::word_first(line) {
+    if !keywords::word_first(line) {
         return Entry::Bad;
     }
-    let letter = text::word(line, 0);
-    let at = letter.len();
-    if text::same_word(letter, b"p") {
+    let start = text::skip_blanks(line, 0);
+    let letter = text::word(line, start);
+    let at = start + letter.len();
+    if is_letter(letter, b"p") {
         return problem_on(&line[at..]);
     }
-    if text::same_word(letter, b"n") {
+    if is_letter(letter, b"n") {
         return source_on(&line[at..]);
     }
-    if text::same_word(letter, b"a") {
+    if is_letter(letter, b"a") {
         return arc_on(&line[at..]);
     }
     Entry::Bad

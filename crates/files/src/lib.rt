@@ -1,8 +1,12 @@
 // Reads files by name, and writes to standard output.
+use graph::LONGEST_TEXT;
 use libc::STDOUT_FILENO;
 ghost use Prim.Native.Nat.{_≤_};
 ghost use lib.ListN as list;
 ghost use Rattle.io.specs.Counts.{Counts};
+
+// Room for a file that is to hold a text: one byte more than a text may have, so that a longer file is seen to be too long.
+pub const FILE_BYTES: usize = LONGEST_TEXT + 1;
 
 // Reads from the descriptor until the file ends or `out` is full. The result is how many bytes came, or 0 if a read fails.
 fn read_all(fd: i32, out: &mut [u8]) -> usize

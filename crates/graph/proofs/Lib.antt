@@ -3,3 +3,4 @@ pub mod Ranges
 pub mod Passed
 pub mod Told
 pub mod Index
+pub mod Counting

@@ -5,3 +5,4 @@ pub mod Subgraph
 pub mod Tests
 pub mod Index
 pub mod Passed
+pub mod Degrees

@@ -1,14 +1,14 @@
 -- The tests that calls make on a graph's numbers, on bounds and on a subgraph, in the order of document 01.
 use Prim.Native.Nat.{ℕ}
 use mathlib.Core.Bool.{Bool, true, false, not, _&&_}
-use mathlib.Core.List.{List, [], _∷_}
+use mathlib.Core.List.{List, [], _∷_, _++_}
 use lib.Dec.{leb, eqb}
 use lib.IntN.{ℤ, pos}
 use lib.ListN.{length}
 use lib.Signed.{leZ}
 use Rattle.graph.specs.declared.Kind.{Kind}
 use Rattle.graph.specs.declared.Kind.the-variants.{Bipartite, General}
-use Rattle.graph.specs.declared.Fault.the-variants.{Sizes, Ends, Weight, SameEnds, Bound, Mark, Degree, NotBipartite, BoundNotOne}
+use Rattle.graph.specs.declared.Fault.the-variants.{LentLength, Sizes, Ends, Weight, SameEnds, Bound, Mark, Degree, NotBipartite, BoundNotOne}
 use Rattle.graph.specs.Refusal.{Test, once, each}
 use Rattle.graph.specs.Graph.{Graph, vertices, rowAt, columnAt, weightAt, boundAt, sizesInRange, endsInRange, weightInRange, boundInRange, boundIsOne, joined}
 use Rattle.graph.specs.Subgraph.{markAt, degree}
@@ -41,6 +41,12 @@ isBipartite General = false
 
 abbrev pub kindTest : Graph → Test
 kindTest g = once NotBipartite (isBipartite (g .kind))
+
+-- The tests of a call that takes a bipartite graph with bounds: the lengths (9), of which the call tests others itself, the graph's numbers (4, 6, 7, 8), the
+-- bounds (10), and the kind (16).
+abbrev pub bipartiteTests : Graph → List ℤ → Bool → List Test
+bipartiteTests g bound others =
+    once LentLength (graphLengths g && (eqb (length bound) (vertices g) && others)) ∷ (graphTests g ++ (boundTest g bound ∷ kindTest g ∷ []))
 
 -- The marks (11), and the degrees (12).
 abbrev pub markTest : Graph → List ℕ → Test

@@ -1,6 +1,14 @@
-// The types that every call speaks of: kinds of graph, and refusals.
+// The types that every call speaks of: kinds of graph, and refusals; how many vertices there are, an edge's ends, and degrees.
+ghost use Prim.Native.Nat.{ℕ, _-_, _≤_, _<_};
 ghost use mathlib.Core.Path.{_≡_};
+ghost use mathlib.Core.List.{[]};
+ghost use lib.ListN.{length, getD};
+ghost use Rattle.graph.specs.Limits.{mostVertices};
 ghost use Rattle.graph.specs.Refusal.{numberOf};
+ghost use Rattle.graph.specs.Graph.{graphOf, verticesIn, columnVertex};
+ghost use Rattle.graph.specs.Subgraph.{degree};
+ghost use Rattle.graph.specs.Passed.{Sound, MarksHold};
+ghost use Rattle.graph.specs.Degrees.{Grown};
 
 // The sort of sheet: two-sided, from row vertices to column vertices, or one-sided.
 pub enum Kind {
@@ -117,4 +125,71 @@ pub fn number(fault: Fault) -> u32
         Fault::AssignmentLine => 20,
         Fault::Sources => 21,
     }
+}
+
+// The two ends of an edge, as vertices.
+pub struct Ends {
+    pub first: usize,
+    pub second: usize,
+}
+
+// n, the number of vertices.
+pub fn vertex_count(s: Shape) -> u64
+    ensures { λ r. ⌜ r ≡ verticesIn s ⌝ }
+{
+    let kind = s.kind;
+    match kind {
+        Kind::Bipartite => s.rows as u64 + s.columns as u64,
+        Kind::General => s.rows as u64,
+    }
+}
+
+// The vertex of a column.
+fn column_vertex(s: Shape, c: u32) -> usize
+    requires { ⌜ 1 ≤ c ⌝ }
+    ensures { λ v. ⌜ v ≡ columnVertex (s .kind) (s .rows) c ⌝ }
+{
+    let kind = s.kind;
+    match kind {
+        Kind::Bipartite => s.rows as usize + (c - 1) as usize,
+        Kind::General => (c - 1) as usize,
+    }
+}
+
+// The ends of an edge in row r and column c.
+pub fn ends_of(s: Shape, r: u32, c: u32) -> Ends
+    requires { ⌜ (1 ≤ r) × (1 ≤ c) ⌝ }
+    ensures { λ e. ⌜ (e .first ≡ r - 1) × (e .second ≡ columnVertex (s .kind) (s .rows) c) ⌝ }
+{
+    Ends {
+        first: (r - 1) as usize,
+        second: column_vertex(s, c),
+    }
+}
+
+// Adds an edge's mark to the degrees of its two ends.
+fn add_edge(degree: &mut [u32], ends: Ends, mark: u8)
+    requires { ⌜ (length (now degree) ≡ mostVertices) × (ends .first < mostVertices) × (ends .second < mostVertices) ⌝ }
+    requires { ⌜ ((v : ℕ) → v < mostVertices → getD (now degree) v 0 ≤ 65536) ⌝ }
+    ensures { λ _. ⌜ Grown (now (degree .entry)) (now (degree .exit)) (ends .first) (ends .second) mark ⌝ }
+{
+    let first = ends.first;
+    let second = ends.second;
+    degree[first] += mark as u32;
+    degree[second] += mark as u32;
+}
+
+// The degree of every vertex, in one pass over the edges.
+pub fn degrees(s: Shape, row: &[u32], column: &[u32], chosen: &[u8]) -> [u32; MOST_VERTICES]
+    requires { ⌜ Sound s (now row) (now column) ⌝ }
+    requires { ⌜ MarksHold (s .edges) (now chosen) ⌝ }
+    ensures { λ r. ⌜ ((v : ℕ) → v < mostVertices → getD r v 0 ≡ degree (graphOf s (now (row .entry)) (now (column .entry)) []) (now (chosen .entry)) v) ⌝ }
+{
+    let mut degree = [0u32; MOST_VERTICES];
+    let mut e = 0;
+    while e < row.len() {
+        add_edge(&mut degree, ends_of(s, row[e], column[e]), chosen[e]);
+        e += 1;
+    }
+    degree
 }

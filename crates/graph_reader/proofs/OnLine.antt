@@ -12,11 +12,12 @@ use Rattle.layout.specs.declared.Field.{Field}
 use Rattle.layout.specs.Text.{bytes, header}
 use Rattle.layout.specs.Lines.{Step, goes, stops}
 use Rattle.layout.specs.GraphText.{fieldWord, graphHeader, noEdges, graphSizes}
-use Rattle.text.specs.declared.HeaderKind.{HeaderKind}
-use Rattle.text.specs.declared.HeaderKind.the-variants as HeaderKind
+use Rattle.headers.specs.declared.HeaderKind.{HeaderKind}
+use Rattle.headers.specs.declared.HeaderKind.the-variants as HeaderKind
 use Rattle.text.specs.declared.Triple.{Triple}
 use Rattle.text.specs.declared.Triple.the-variants as Triple
-use Rattle.text.specs.Cursor.{tripleSays, kindSays, kindTold}
+use Rattle.headers.specs.Headers.{kindSays, kindTold}
+use Rattle.text.specs.Cursor.{tripleSays}
 
 -- The header line: its kind, or none.
 abbrev kindStep : Option Kind → Step Kind

@@ -5,11 +5,11 @@ use graph::Fault;
 use graph::Kind;
 use graph::MOST_EDGES;
 use graph::Shape;
+use headers::HeaderKind;
 use layout::Field;
 use layout::GraphAnswer;
 use layout::Rules;
 use lines::Opened;
-use text::HeaderKind;
 use text::Triple;
 ghost use mathlib.Core.Path.{_≡_};
 ghost use lib.IntN.{pos};
@@ -21,7 +21,7 @@ ghost use Rattle.layout.specs.Text.{words, natural, threeWords};
 ghost use Rattle.layout.specs.Lines.{readText};
 ghost use Rattle.layout.specs.GraphText.{fieldWord, graphSizes, graphLayout, readGraphBy, readGraph};
 ghost use Rattle.layout.specs.Answers.{graphSays};
-ghost use Rattle.text.specs.Cursor.{kindSays, kindTold};
+ghost use Rattle.headers.specs.Headers.{kindSays, kindTold};
 ghost use Rattle.edge_reader.specs.Edges.{Cleared, GraphReading};
 ghost use Rattle.graph_reader.specs.OnLine.{shapeSays, ShapeInRange};
 
@@ -30,8 +30,8 @@ fn header_on(line: &[u8], field: Field) -> HeaderKind
     ensures { λ r. ⌜ kindSays r ≡ kindTold (fieldWord field) (now (line .entry)) ⌝ }
 {
     match field {
-        Field::Integer => text::header_kind(line, b"integer"),
-        Field::Pattern => text::header_kind(line, b"pattern"),
+        Field::Integer => headers::header_kind(line, b"integer"),
+        Field::Pattern => headers::header_kind(line, b"pattern"),
     }
 }
 
@@ -41,7 +41,7 @@ enum ShapeLine {
     Refused(Fault),
 }
 
-fn size_on(line: &[u8], kind: Kind, rules: Rules) -> ShapeLine
+fn shape_on(line: &[u8], kind: Kind, rules: Rules) -> ShapeLine
     ensures says { λ r. ⌜ shapeSays r ≡ graphSizes kind (threeWords (natural rules) (natural rules) (natural rules) (words (now (line .entry)))) ⌝ }
     ensures ranged { λ r. ⌜ ShapeInRange r ⌝ }
 {
@@ -54,7 +54,7 @@ fn size_on(line: &[u8], kind: Kind, rules: Rules) -> ShapeLine
         columns,
         edges,
     };
-    if checks::sizes_in_range(s) {
+    if ranges::sizes_in_range(s) {
         ShapeLine::Is(s)
     } else {
         ShapeLine::Refused(Fault::Sizes)
@@ -62,7 +62,7 @@ fn size_on(line: &[u8], kind: Kind, rules: Rules) -> ShapeLine
 }
 
 // The whole text, into outputs that are cleared.
-fn read_lines(
+fn read_graph_lines(
     text: &[u8],
     rules: Rules,
     field: Field,
@@ -81,7 +81,7 @@ fn read_lines(
             };
             match lines::size_line(text, next) {
                 Opened::Refused(r) => GraphAnswer::Refused(r),
-                Opened::At { start, end, next } => match size_on(&text[start..end], kind, rules) {
+                Opened::At { start, end, next } => match shape_on(&text[start..end], kind, rules) {
                     ShapeLine::Refused(fault) => {
                         GraphAnswer::Refused(lines::refused_at(fault, next))
                     }
@@ -115,11 +115,11 @@ pub fn read_graph_by(
     ensures weights { λ _. ⌜ now (weight .exit) ≡ output (length (now (weight .entry))) (pos 0) (λ g. g .weight) (readGraphBy rules field (length (now (row .entry))) (length (now (column .entry))) (length (now (weight .entry))) (now (text .entry))) ⌝ }
 {
     edge_reader::clear(row, column, weight);
-    let ends = checks::both(row.len() == MOST_EDGES, column.len() == MOST_EDGES);
-    let lent = checks::both(ends, weight.len() == MOST_EDGES);
+    let ends = integers::both(row.len() == MOST_EDGES, column.len() == MOST_EDGES);
+    let lent = integers::both(ends, weight.len() == MOST_EDGES);
     match lines::check_text(text, lent, true) {
         Check::Refused(r) => GraphAnswer::Refused(r),
-        Check::Passed => match read_lines(text, rules, field, row, column, weight) {
+        Check::Passed => match read_graph_lines(text, rules, field, row, column, weight) {
             GraphAnswer::Graph(s) => GraphAnswer::Graph(s),
             GraphAnswer::Refused(r) => {
                 edge_reader::clear(row, column, weight);

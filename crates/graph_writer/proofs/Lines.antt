@@ -1,4 +1,4 @@
--- What `put_edge` and `put_graph` write: the line of an edge part by part, and the lines of the edges after the header and the size line.
+-- What `put_weighted_edge` and `put_graph` write: the line of an edge part by part, and the lines of the edges after the header and the size line.
 use mathlib.Core.Path.{_≡_, sym, ap, _∙_, subst}
 use mathlib.Core.List.{List, [], _∷_, _++_}
 use Prim.Native.Nat.{ℕ, _+_, _^_, _≤_, _<_}
@@ -19,10 +19,12 @@ use Rattle.readback.proofs.Pieces.{unlines-append, length-line, length-no-line}
 use Rattle.readback.proofs.Growing.{growing-none, growing-next}
 use Rattle.readback.proofs.Fits.{lines-growing, graph-line-le, graph-text-le}
 use Rattle.tidying.proofs.Tidied.{map-at}
-use Rattle.writer.specs.Written.{Puts, Written, headLines}
-use Rattle.writer.proofs.Over.{puts-then, puts-same, zeros-written}
-use Rattle.writer.proofs.Signs.{fromBits}
-use Rattle.writer.proofs.Parts.{Part, part-none, part-next, part-byte, part-signed, blanked}
+use Rattle.digits.specs.Puts.{Puts}
+use Rattle.writer.specs.Written.{Written, headLines}
+use Rattle.writer.proofs.Zeros.{zeros-written}
+use Rattle.digits.proofs.Over.{puts-then, puts-same}
+use Rattle.digits.proofs.Signs.{fromBits}
+use Rattle.digits.proofs.Parts.{Part, part-none, part-next, part-byte, part-signed, blanked}
 use Rattle.writer.proofs.Lines.{head-le}
 use Rattle.graph_writer.specs.Order.{Ordered}
 use Rattle.writer.proofs.Writing.{Writing, writing-starts, writing-room, writing-more, writing-ends}

@@ -1,9 +1,9 @@
 // Writes a graph (sheet) as a Matrix Market text, its edges in a given order or in the graph's own.
+use digits::put_field;
+use digits::put_signed;
 use graph::MOST_EDGES;
 use graph::Shape;
 use layout::Field;
-use writer::put_field;
-use writer::put_signed;
 ghost use mathlib.Core.Path.{_≡_};
 ghost use mathlib.Core.List.{[], _∷_};
 ghost use Prim.Native.Nat.{_+_, _≤_, _<_};
@@ -15,11 +15,12 @@ ghost use Rattle.graph.specs.Passed.{Passed};
 ghost use Rattle.layout.specs.Text.{decimal, signed, spaced, unlines};
 ghost use Rattle.layout.specs.GraphText.{graphText};
 ghost use Rattle.layout.specs.TidyText.{inOrder};
-ghost use Rattle.writer.specs.Written.{Puts, Written};
+ghost use Rattle.digits.specs.Puts.{Puts};
+ghost use Rattle.writer.specs.Written.{Written};
 ghost use Rattle.graph_writer.specs.Order.{Ordered, OwnOrder};
 
 // Writes the line of edge e from `at` on: its row, its column and its weight. The result is the place after it.
-fn put_edge(
+fn put_weighted_edge(
     out: &mut [u8],
     at: usize,
     row: &[u32],
@@ -57,7 +58,7 @@ pub fn put_graph(
     let mut k = 0;
     while k < order.len() {
         let e = order[k] as usize;
-        at = put_edge(out, at, row, column, weight, e);
+        at = put_weighted_edge(out, at, row, column, weight, e);
         k += 1;
     }
     at

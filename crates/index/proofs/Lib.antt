@@ -1,5 +1,3 @@
--- The laws of an index.
-pub mod Offsets
-pub mod Places
+-- The laws of testing an index.
 pub mod Tested
 pub mod Standing

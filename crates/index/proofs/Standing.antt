@@ -7,40 +7,17 @@ use mathlib.Core.List.{List}
 use native.Mathlib.Omega.{arith}
 use native.Mathlib.Decide.{ℕ-discrete, decLt}
 use native.Mathlib.Numerals.{add-one}
-use lib.Dec.{eqb}
 use lib.ListN.{length, getD, set, length-set, replicate, length-replicate, getD-replicate}
 use lib.Seq.{getD-set-other}
-use borrow.Author.Tests.{eqb-true}
 use Rattle.graph.specs.Graph.{Graph, shapeOf, vertices, firstEnd, secondEnd}
 use Rattle.graph.specs.Passed.{Sound}
 use Rattle.graph.specs.Index.{isEnd, offset, indexOf, indexNumbers}
 use Rattle.graph.proofs.Index.{count-step, seen, is-end-not, offset-at, offset-next, place-of, offset-end}
-use Rattle.checks.proofs.Counting.{add-at}
-use Rattle.index.specs.Building.{HoldsIndex, Standing, AddsUp}
-use Rattle.index.proofs.Places.{seen-grows}
-
--- A number that was found at a place.
-pub stands-here : (index : List ℕ) (from i k number : ℕ) → eqb (getD index (from + i + k) 0) number ≡ true → getD index (from + (i + k)) 0 ≡ number
-stands-here index from i k number t =
-    let at : from + (i + k) ≡ from + i + k = omega arith in
-    ap (λ j. getD index j 0) at ∙ eqb-true (getD index (from + i + k) 0) number t
-
--- The offsets, one after the other.
-module _ {index count : List ℕ} where
-  pub adds-none : getD index 0 0 ≡ 0 → AddsUp index count 0
-  adds-none z = record { first = z; next = λ v l. absurd (omega arith) }
-
-  pub adds-more : {v : ℕ} → AddsUp index count v → getD index v 0 + getD count v 0 ≡ getD index (v + 1) 0 → AddsUp index count (v + 1)
-  adds-more {v} A is = record {
-    first = A .first;
-    next = λ w l. elim (ℕ-discrete w v) [
-      | yes e ↦ ap (λ k. getD index (k + 1) 0) e ∙ sym is ∙ ap (λ k. getD index k 0 + getD count k 0) (sym e)
-      | no e ↦ A .next w (omega (arith, e))
-    ];
-  }
-
-  pub adds-all : {v n : ℕ} → AddsUp index count v → n ≤ v → AddsUp index count n
-  adds-all A le = record { first = A .first; next = λ w l. A .next w (omega arith) }
+use Rattle.graph.proofs.Counting.{add-at}
+use Rattle.index_builder.specs.Building.{HoldsIndex}
+use Rattle.positions.specs.Positions.{AddsUp}
+use Rattle.index.specs.Testing.{Standing}
+use Rattle.index_builder.proofs.Places.{seen-grows}
 
 -- No more edges are seen at a vertex than there are.
 seen-few : (g : Graph) (v k : ℕ) → seen g v k ≤ k

@@ -32,8 +32,8 @@ is-le i k = go (eqb i k)
 
 -- ---- the naturals
 
-abbrev naturals : Summing ℕ
-naturals = record {
+abbrev naturalSums : Summing ℕ
+naturalSums = record {
   plus = _+_;
   none = 0;
   assoc = add-assoc;
@@ -45,31 +45,31 @@ naturals = record {
 }
 
 pub sum-next : (n : ℕ) (f : ℕ → ℕ) → sum (n + 1) f ≡ sum n f + f n
-sum-next = total.next naturals
+sum-next = total.next naturalSums
 
 pub sum-cong : (n : ℕ) (f g : ℕ → ℕ) → ((i : ℕ) → i < n → f i ≡ g i) → sum n f ≡ sum n g
-sum-cong = total.cong naturals
+sum-cong = total.cong naturalSums
 
 pub sum-mono : (n : ℕ) (f g : ℕ → ℕ) → ((i : ℕ) → i < n → f i ≤ g i) → sum n f ≤ sum n g
-sum-mono = related naturals naturals _≤_ (omega arith) (λ a c b d h k. omega arith)
+sum-mono = related naturalSums naturalSums _≤_ (omega arith) (λ a c b d h k. omega arith)
 
 pub sum-add : (n : ℕ) (f g : ℕ → ℕ) → sum n (λ i. f i + g i) ≡ sum n f + sum n g
-sum-add = total.add naturals
+sum-add = total.add naturalSums
 
 pub sum-scale : (n k : ℕ) (f : ℕ → ℕ) → sum n (λ i. k * f i) ≡ k * sum n f
-sum-scale n k f = image naturals naturals (λ a. k * a) (mul-zero k) (mul-add k) n f
+sum-scale n k f = image naturalSums naturalSums (λ a. k * a) (mul-zero k) (mul-add k) n f
 
 pub sum-split : (n k : ℕ) (f : ℕ → ℕ) → sum (n + k) f ≡ sum n f + sum k (λ i. f (n + i))
-sum-split = total.split naturals
+sum-split = total.split naturalSums
 
 pub sum-none : (n : ℕ) (f : ℕ → ℕ) → ((i : ℕ) → i < n → f i ≡ 0) → sum n f ≡ 0
-sum-none = total.nothing naturals
+sum-none = total.nothing naturalSums
 
 pub sum-change : (n k : ℕ) (f g : ℕ → ℕ) → k < n → ((i : ℕ) → i < n → i ≢ k → f i ≡ g i) → sum n f + g k ≡ sum n g + f k
-sum-change = total.change naturals
+sum-change = total.change naturalSums
 
 pub sum-alone : (n k : ℕ) (f : ℕ → ℕ) → k < n → ((i : ℕ) → i < n → i ≢ k → f i ≡ 0) → sum n f ≡ f k
-sum-alone = total.alone naturals
+sum-alone = total.alone naturalSums
 
 pub sum-at : (n k : ℕ) (f : ℕ → ℕ) → k < n → sum n (λ i. f i * is k i) ≡ f k
 sum-at n k f l =
@@ -90,8 +90,8 @@ sum-term n k f l = omega (arith, sum-at n k f l, sum-mono n (λ i. f i * is k i)
 
 -- ---- the integers
 
-abbrev integers : Summing ℤ
-integers = record {
+abbrev integerSums : Summing ℤ
+integerSums = record {
   plus = _+ℤ_;
   none = pos 0;
   assoc = +ℤ-assoc;
@@ -103,31 +103,31 @@ integers = record {
 }
 
 pub sumℤ-next : (n : ℕ) (f : ℕ → ℤ) → sumℤ (n + 1) f ≡ sumℤ n f +ℤ f n
-sumℤ-next = total.next integers
+sumℤ-next = total.next integerSums
 
 pub sumℤ-cong : (n : ℕ) (f g : ℕ → ℤ) → ((i : ℕ) → i < n → f i ≡ g i) → sumℤ n f ≡ sumℤ n g
-sumℤ-cong = total.cong integers
+sumℤ-cong = total.cong integerSums
 
 pub sumℤ-add : (n : ℕ) (f g : ℕ → ℤ) → sumℤ n (λ i. f i +ℤ g i) ≡ sumℤ n f +ℤ sumℤ n g
-sumℤ-add = total.add integers
+sumℤ-add = total.add integerSums
 
 pub sumℤ-neg : (n : ℕ) (f : ℕ → ℤ) → sumℤ n (λ i. negℤ (f i)) ≡ negℤ (sumℤ n f)
-sumℤ-neg = image integers integers negℤ refl negℤ-+ℤ
+sumℤ-neg = image integerSums integerSums negℤ refl negℤ-+ℤ
 
 pub sumℤ-diff : (n : ℕ) (f g : ℕ → ℤ) → sumℤ n (λ i. f i -ℤ g i) ≡ sumℤ n f -ℤ sumℤ n g
 sumℤ-diff n f g = sumℤ-add n f (λ i. negℤ (g i)) ∙ ap (λ z. sumℤ n f +ℤ z) (sumℤ-neg n g)
 
 pub sumℤ-scale : (n : ℕ) (c : ℤ) (f : ℕ → ℤ) → sumℤ n (λ i. c *ℤ f i) ≡ c *ℤ sumℤ n f
-sumℤ-scale n c f = image integers integers (λ z. c *ℤ z) (*ℤ-zero c) (times-add c) n f
+sumℤ-scale n c f = image integerSums integerSums (λ z. c *ℤ z) (*ℤ-zero c) (times-add c) n f
 
 pub sumℤ-swap : (n m : ℕ) (f : ℕ → ℕ → ℤ) → sumℤ n (λ i. sumℤ m (λ j. f i j)) ≡ sumℤ m (λ j. sumℤ n (λ i. f i j))
-sumℤ-swap = total.exchange integers
+sumℤ-swap = total.exchange integerSums
 
 pub sumℤ-none : (n : ℕ) (f : ℕ → ℤ) → ((i : ℕ) → i < n → f i ≡ pos 0) → sumℤ n f ≡ pos 0
-sumℤ-none = total.nothing integers
+sumℤ-none = total.nothing integerSums
 
 pub sumℤ-alone : (n k : ℕ) (f : ℕ → ℤ) → k < n → ((i : ℕ) → i < n → i ≢ k → f i ≡ pos 0) → sumℤ n f ≡ f k
-sumℤ-alone = total.alone integers
+sumℤ-alone = total.alone integerSums
 
 pub sumℤ-at : (n k : ℕ) (f : ℕ → ℤ) → k < n → sumℤ n (λ i. pos (is k i) *ℤ f i) ≡ f k
 sumℤ-at n k f l =
@@ -136,9 +136,9 @@ sumℤ-at n k f l =
     ∙ one-times (f k)
 
 pub sumℤ-nonneg : (n : ℕ) (f : ℕ → ℤ) → ((i : ℕ) → i < n → pos 0 ≤ℤ f i) → pos 0 ≤ℤ sumℤ n f
-sumℤ-nonneg n f = related integers integers (λ a b. pos 0 ≤ℤ b) (≤ℤ-refl (pos 0)) (λ a c b d h k. add-le h k) n f f
+sumℤ-nonneg n f = related integerSums integerSums (λ a b. pos 0 ≤ℤ b) (≤ℤ-refl (pos 0)) (λ a c b d h k. add-le h k) n f f
 
 -- ---- the two sums joined
 
 pub sumℤ-pos : (n : ℕ) (f : ℕ → ℕ) → sumℤ n (λ i. pos (f i)) ≡ pos (sum n f)
-sumℤ-pos = image naturals integers pos refl (λ a b. refl)
+sumℤ-pos = image naturalSums integerSums pos refl (λ a b. refl)

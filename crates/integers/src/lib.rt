@@ -1,7 +1,8 @@
-// The machine's signed arithmetic. Each function's contract gives its result as an integer.
+// The machine's signed arithmetic, whose contracts give each result as an integer; tests put together, and a number picked by one.
 ghost use mathlib.Core.Path.{_≡_};
+ghost use mathlib.Core.Bool.{cond, _&&_, _||_};
 ghost use Prim.Native.Nat.{_+_, _^_, _<_, _≤_};
-ghost use lib.ListN.{length, getD};
+ghost use lib.ListN.{length, getD, set};
 ghost use lib.IntN.{pos, _+ℤ_, _-ℤ_, _*ℤ_};
 ghost use lib.Signed.{_≤ℤ_, leZ};
 ghost use Rattle.integers.specs.Integer.{up, dn, Within, between};
@@ -95,4 +96,33 @@ pub fn natural_at(w: &[i32], p: usize) -> u32
     ensures { λ r. ⌜ r ≡ up (getD (now (w .entry)) p (pos 0)) ⌝ }
 {
     natural_part(w[p])
+}
+
+// Whether two tests hold that have both been made.
+pub fn both(a: bool, b: bool) -> bool
+    ensures { λ r. ⌜ r ≡ (a && b) ⌝ }
+{
+    if a { b } else { false }
+}
+
+// Whether one of two tests holds.
+pub fn either(a: bool, b: bool) -> bool
+    ensures { λ r. ⌜ r ≡ (a || b) ⌝ }
+{
+    if a { true } else { b }
+}
+
+// One of two numbers, by a test.
+pub fn pick(test: bool, a: u32, b: u32) -> u32
+    ensures { λ r. ⌜ r ≡ cond test a b ⌝ }
+{
+    if test { a } else { b }
+}
+
+// Sets the number at k of a list of integers to a natural number.
+pub fn put_natural(out: &mut [i32], k: usize, n: u32)
+    requires { ⌜ (k < length (now out)) × (n < 2 ^ 31) ⌝ }
+    ensures { λ _. ⌜ now (out .exit) ≡ set (now (out .entry)) k (pos n) ⌝ }
+{
+    out[k] = n as i32;
 }

@@ -14,7 +14,8 @@ use Rattle.layout.specs.declared.TextAnswer.the-variants as TextAnswer
 use Rattle.layout.specs.Answers.{graphSays, textSays}
 use Rattle.dual.specs.declared.Measures.{Measures}
 use Rattle.dual.specs.Solve.{Lent, Outputs, solve, Left}
-use Rattle.jangoripu.specs.Exports.{numberIn, placeIn, shapeTold, shapeOutcome, lengthTold, textOutcome, measuresTold, GraphRead, Filled, Tested, TextWritten, Measured, GraphSolved}
+use Rattle.telling.specs.Telling.{numberIn, placeIn, shapeTold, shapeOutcome, lengthTold, textOutcome}
+use Rattle.jangoripu.specs.Exports.{measuresTold, GraphRead, Filled, Tested, TextWritten, Measured, GraphSolved}
 
 -- A report keeps the number and the place of a refusal.
 pub number-kept : {A B : Type 0} (f : A → B) (W : Outcome A) → numberIn (reported f W) ≡ numberIn W

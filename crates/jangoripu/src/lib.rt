@@ -1,20 +1,13 @@
-// The eleven public calls, exported for C and Rust; include/jangoripu.h declares them.
+// The public calls, exported for C and Rust; include/jangoripu.h declares them.
 //
 // Each returns 0 for a result, or the number of a refusal, and tells the refusal's place. A kind is a bool: false for bipartite (two-sided),
 // true for general (one-sided); so is the sort of numbers: false for bounds (limits), true for prices. No other value can be passed.
 use dual::MeasureAnswer;
 use dual::SolveAnswer;
 use graph::IndexAnswer;
-use graph::Kind;
-use graph::Refusal;
-use graph::Shape;
-use layout::GraphAnswer;
-use layout::Numbers;
 use layout::NumbersAnswer;
 use layout::SubgraphAnswer;
-use layout::TextAnswer;
 ghost use Prim.Native.Nat.{ℕ};
-ghost use mathlib.Core.Path.{_≡_};
 ghost use lib.IntN.{ℤ, pos};
 ghost use lib.ListN.{length};
 ghost use Rattle.layout.specs.GraphText.{readGraph};
@@ -22,103 +15,13 @@ ghost use Rattle.layout.specs.NumberText.{readNumbers};
 ghost use Rattle.layout.specs.SubgraphText.{readSubgraph, writeSubgraph};
 ghost use Rattle.layout.specs.TidyText.{tidyGraph};
 ghost use Rattle.layout.specs.AssignmentText.{writeAssignment, readAssignment};
-ghost use Rattle.graph.specs.Refusal.{numberOf};
 ghost use Rattle.graph.specs.Graph.{graphOf};
 ghost use Rattle.graph.specs.Index.{buildIndex, testIndex};
 ghost use Rattle.dual.specs.Prices.{pricesOf};
 ghost use Rattle.dual.specs.Measure.{measure};
 ghost use Rattle.dual.specs.Solve.{lentOf, outputsOf};
-ghost use Rattle.jangoripu.specs.Exports.{kindOf, shapeGiven, kindNumber, numbersOf, numberIn, shapeTold, shapeOutcome, lengthTold, textOutcome, GraphRead, AssignmentRead, Filled, Tested, TextWritten, GraphSolved, Measured};
-
-// The kind that is passed as a bool.
-fn kind_of(general: bool) -> Kind
-    ensures { λ r. ⌜ r ≡ kindOf general ⌝ }
-{
-    if general {
-        Kind::General
-    } else {
-        Kind::Bipartite
-    }
-}
-
-// The shape that is passed as a bool and three numbers.
-fn shape_of(general: bool, rows: u32, columns: u32, edges: u32) -> Shape
-    ensures { λ s. ⌜ (s .kind ≡ kindOf general) × (s .rows ≡ rows) × (s .columns ≡ columns) × (s .edges ≡ edges) ⌝ }
-{
-    let kind = kind_of(general);
-    Shape {
-        kind,
-        rows,
-        columns,
-        edges,
-    }
-}
-
-// The sort of numbers that is passed as a bool.
-fn numbers_of(prices: bool) -> Numbers
-    ensures { λ r. ⌜ r ≡ numbersOf prices ⌝ }
-{
-    if prices {
-        Numbers::Prices
-    } else {
-        Numbers::Bounds
-    }
-}
-
-// A kind as a number.
-fn kind_number(kind: Kind) -> u64
-    ensures { λ r. ⌜ r ≡ kindNumber kind ⌝ }
-{
-    match kind {
-        Kind::Bipartite => 0,
-        Kind::General => 1,
-    }
-}
-
-// Tells a refusal's place, and answers its number.
-fn tell(refusal: Refusal, place: &mut u64) -> u32
-    ensures { λ r. ⌜ (r ≡ numberOf (refusal .fault)) × (now (place .exit) ≡ refusal .place) ⌝ }
-{
-    *place = refusal.place;
-    let fault = refusal.fault;
-    graph::number(fault)
-}
-
-// Tells the place of a refusal and the length of a text, as a call that writes one answers them, and answers the refusal's number.
-fn tell_text(told: TextAnswer, answer: &mut [u64; 2]) -> u32
-    ensures { λ r. ⌜ (r ≡ numberIn (textOutcome told)) × (now (answer .exit) ≡ lengthTold (textOutcome told)) ⌝ }
-{
-    match told {
-        TextAnswer::Written(length) => {
-            *answer = [0, length as u64];
-            0
-        }
-        TextAnswer::Refused(refusal) => {
-            *answer = [refusal.place, 0];
-            let fault = refusal.fault;
-            graph::number(fault)
-        }
-    }
-}
-
-// Tells the place of a refusal and the shape of a graph, as a reader of one answers them, and answers the refusal's number.
-fn tell_shape(told: GraphAnswer, answer: &mut [u64; 5]) -> u32
-    ensures { λ r. ⌜ (r ≡ numberIn (shapeOutcome told)) × (now (answer .exit) ≡ shapeTold (shapeOutcome told)) ⌝ }
-{
-    match told {
-        GraphAnswer::Graph(s) => {
-            let kind = s.kind;
-            let number = kind_number(kind);
-            *answer = [0, number, s.rows as u64, s.columns as u64, s.edges as u64];
-            0
-        }
-        GraphAnswer::Refused(refusal) => {
-            *answer = [refusal.place, 0, 0, 0, 0];
-            let fault = refusal.fault;
-            graph::number(fault)
-        }
-    }
-}
+ghost use Rattle.telling.specs.Telling.{shapeGiven, numbersOf};
+ghost use Rattle.jangoripu.specs.Exports.{GraphRead, AssignmentRead, Filled, Tested, TextWritten, GraphSolved, Measured};
 
 // Reads a graph (sheet). The answer tells the place, and kind, rows, columns and the number of edges.
 #[no_mangle]
@@ -132,7 +35,7 @@ pub extern "C" fn jangoripu_read_graph(
     ensures { λ r. ⌜ GraphRead (readGraph (length (now (row .entry))) (length (now (column .entry))) (length (now (weight .entry))) (now (text .entry))) (length (now (row .entry))) (length (now (column .entry))) (length (now (weight .entry))) r (now (answer .exit)) (now (row .exit)) (now (column .exit)) (now (weight .exit)) ⌝ }
 {
     let told = graph_reader::read_graph(text, row, column, weight);
-    tell_shape(told, answer)
+    telling::tell_shape(told, answer)
 }
 
 // Reads `count` bounds (limits) or prices.
@@ -146,13 +49,13 @@ pub extern "C" fn jangoripu_read_numbers(
 ) -> u32
     ensures { λ r. ⌜ Filled ℤ (readNumbers (numbersOf prices) count (length (now (out .entry))) (now (text .entry))) (length (now (out .entry))) (pos 0) r (now (place .exit)) (now (out .exit)) ⌝ }
 {
-    let what = numbers_of(prices);
+    let what = telling::numbers_of(prices);
     match number_reader::read_numbers(text, what, count, out) {
         NumbersAnswer::Read => {
             *place = 0;
             0
         }
-        NumbersAnswer::Refused(refusal) => tell(refusal, place),
+        NumbersAnswer::Refused(refusal) => telling::tell(refusal, place),
     }
 }
 
@@ -172,13 +75,13 @@ pub extern "C" fn jangoripu_read_subgraph(
 ) -> u32
     ensures { λ r. ⌜ Filled ℕ (readSubgraph (graphOf (shapeGiven general rows columns edges) (now (row .entry)) (now (column .entry)) (now (weight .entry))) (length (now (chosen .entry))) (now (text .entry))) (length (now (chosen .entry))) 0 r (now (place .exit)) (now (chosen .exit)) ⌝ }
 {
-    let s = shape_of(general, rows, columns, edges);
+    let s = telling::shape_given(general, rows, columns, edges);
     match subgraph_reader::read_subgraph(text, s, row, column, weight, chosen) {
         SubgraphAnswer::Read => {
             *place = 0;
             0
         }
-        SubgraphAnswer::Refused(refusal) => tell(refusal, place),
+        SubgraphAnswer::Refused(refusal) => telling::tell(refusal, place),
     }
 }
 
@@ -198,9 +101,9 @@ pub extern "C" fn jangoripu_write_subgraph(
 ) -> u32
     ensures { λ r. ⌜ TextWritten (writeSubgraph (graphOf (shapeGiven general rows columns edges) (now (row .entry)) (now (column .entry)) (now (weight .entry))) (now (chosen .entry)) (length (now (out .entry)))) (length (now (out .entry))) r (now (answer .exit)) (now (out .exit)) ⌝ }
 {
-    let s = shape_of(general, rows, columns, edges);
+    let s = telling::shape_given(general, rows, columns, edges);
     let told = subgraph_writer::write_subgraph(s, row, column, weight, chosen, out);
-    tell_text(told, answer)
+    telling::tell_text(told, answer)
 }
 
 // Writes the tidy text of a graph (the tidy sheet). The answer tells the place, and the text's length.
@@ -218,9 +121,9 @@ pub extern "C" fn jangoripu_tidy_graph(
 ) -> u32
     ensures { λ r. ⌜ TextWritten (tidyGraph (graphOf (shapeGiven general rows columns edges) (now (row .entry)) (now (column .entry)) (now (weight .entry))) (length (now (out .entry)))) (length (now (out .entry))) r (now (answer .exit)) (now (out .exit)) ⌝ }
 {
-    let s = shape_of(general, rows, columns, edges);
+    let s = telling::shape_given(general, rows, columns, edges);
     let told = tidier::tidy_graph(s, row, column, weight, out);
-    tell_text(told, answer)
+    telling::tell_text(told, answer)
 }
 
 // Writes a graph whose bounds are all 1 as a DIMACS assignment text. The answer tells the place, and the text's length.
@@ -239,9 +142,9 @@ pub extern "C" fn jangoripu_write_assignment(
 ) -> u32
     ensures { λ r. ⌜ TextWritten (writeAssignment (graphOf (shapeGiven general rows columns edges) (now (row .entry)) (now (column .entry)) (now (weight .entry))) (now (bound .entry)) (length (now (out .entry)))) (length (now (out .entry))) r (now (answer .exit)) (now (out .exit)) ⌝ }
 {
-    let s = shape_of(general, rows, columns, edges);
+    let s = telling::shape_given(general, rows, columns, edges);
     let told = assignment_writer::write_assignment(s, row, column, weight, bound, out);
-    tell_text(told, answer)
+    telling::tell_text(told, answer)
 }
 
 // Reads a DIMACS assignment text: a graph, and its bounds, which are all 1. The answer tells the place, and kind, rows, columns and the number of edges.
@@ -257,7 +160,7 @@ pub extern "C" fn jangoripu_read_assignment(
     ensures { λ r. ⌜ AssignmentRead (readAssignment (length (now (row .entry))) (length (now (column .entry))) (length (now (weight .entry))) (length (now (bound .entry))) (now (text .entry))) (length (now (row .entry))) (length (now (column .entry))) (length (now (weight .entry))) (length (now (bound .entry))) r (now (answer .exit)) (now (row .exit)) (now (column .exit)) (now (weight .exit)) (now (bound .exit)) ⌝ }
 {
     let told = assignment_reader::read_assignment(text, row, column, weight, bound);
-    tell_shape(told, answer)
+    telling::tell_shape(told, answer)
 }
 
 // Builds the index of a graph (the pairs of each fish at hand).
@@ -275,13 +178,13 @@ pub extern "C" fn jangoripu_build_index(
 ) -> u32
     ensures { λ r. ⌜ Filled ℕ (buildIndex (graphOf (shapeGiven general rows columns edges) (now (row .entry)) (now (column .entry)) (now (weight .entry))) (length (now (index .entry)))) (length (now (index .entry))) 0 r (now (place .exit)) (now (index .exit)) ⌝ }
 {
-    let s = shape_of(general, rows, columns, edges);
-    match index::build_index(s, row, column, weight, index) {
+    let s = telling::shape_given(general, rows, columns, edges);
+    match index_builder::build_index(s, row, column, weight, index) {
         IndexAnswer::Indexed => {
             *place = 0;
             0
         }
-        IndexAnswer::Refused(refusal) => tell(refusal, place),
+        IndexAnswer::Refused(refusal) => telling::tell(refusal, place),
     }
 }
 
@@ -300,13 +203,13 @@ pub extern "C" fn jangoripu_test_index(
 ) -> u32
     ensures { λ r. ⌜ Tested (testIndex (graphOf (shapeGiven general rows columns edges) (now (row .entry)) (now (column .entry)) (now (weight .entry))) (now (index .entry))) r (now (place .exit)) ⌝ }
 {
-    let s = shape_of(general, rows, columns, edges);
+    let s = telling::shape_given(general, rows, columns, edges);
     match index::test_index(s, row, column, weight, index) {
         IndexAnswer::Indexed => {
             *place = 0;
             0
         }
-        IndexAnswer::Refused(refusal) => tell(refusal, place),
+        IndexAnswer::Refused(refusal) => telling::tell(refusal, place),
     }
 }
 
@@ -330,7 +233,7 @@ pub extern "C" fn jangoripu_solve(
 ) -> u32
     ensures { λ r. ⌜ GraphSolved (graphOf (shapeGiven general rows columns edges) (now (row .entry)) (now (column .entry)) (now (weight .entry))) (now (bound .entry)) (now (index .entry)) (lentOf (length (now (chosen .entry))) (length (now («vertex_price» .entry))) (length (now («edge_price» .entry))) (length (now (workspace .entry)))) r (now (place .exit)) (outputsOf (now (chosen .exit)) (now («vertex_price» .exit)) (now («edge_price» .exit))) (now (workspace .exit)) ⌝ }
 {
-    let s = shape_of(general, rows, columns, edges);
+    let s = telling::shape_given(general, rows, columns, edges);
     match solver::solve(
         s,
         row,
@@ -347,7 +250,7 @@ pub extern "C" fn jangoripu_solve(
             *place = 0;
             0
         }
-        SolveAnswer::Refused(refusal) => tell(refusal, place),
+        SolveAnswer::Refused(refusal) => telling::tell(refusal, place),
     }
 }
 
@@ -374,7 +277,7 @@ pub extern "C" fn jangoripu_measure(
 ) -> u32
     ensures { λ r. ⌜ Measured (measure (graphOf (shapeGiven general rows columns edges) (now (row .entry)) (now (column .entry)) (now (weight .entry))) (now (bound .entry)) (now (chosen .entry)) (pricesOf (now («vertex_price» .entry)) (now («edge_price» .entry)) sets (now («set_price» .entry)) (now («set_vertices» .entry)) (now («set_edges» .entry)))) r (now (place .exit)) (now (numbers .exit)) ⌝ }
 {
-    let s = shape_of(general, rows, columns, edges);
+    let s = telling::shape_given(general, rows, columns, edges);
     match measure::measure(
         s,
         row,
@@ -404,7 +307,7 @@ pub extern "C" fn jangoripu_measure(
         }
         MeasureAnswer::Refused(refusal) => {
             *numbers = [0, 0, 0, 0, 0, 0, 0];
-            tell(refusal, place)
+            telling::tell(refusal, place)
         }
     }
 }

@@ -12,7 +12,7 @@ use Rattle.integers.proofs.Sum.{sum-mono, sum-cong, sum-add, sum-at, is-same, i
 use Rattle.graph.proofs.Ranges.{both}
 use Rattle.dual.specs.Sets.{one}
 use Rattle.duality.proofs.Core.{handshake}
-use Rattle.kilter.specs.Count.{Sides, degreeBy, Cut, Closed, Choice, Shut}
+use Rattle.kilter.specs.Count.{NearFar, degreeBy, Cut, Closed, Choice, Shut}
 
 -- Where one term is less, and none is more, the sum is less.
 sum-less : (n k : ℕ) (f g : ℕ → ℕ) → k < n → f k < g k → ((i : ℕ) → i < n → f i ≤ g i) → sum n f < sum n g
@@ -52,7 +52,7 @@ vertex-even : (s : Bool) (a b : ℕ) → (s ≡ true → a ≤ b) → one s * a 
 vertex-even true a b h = omega (arith, h refl)
 vertex-even false a b h = omega arith
 
-module _ {rows n m : ℕ} {first second : ℕ → ℕ} {S : ℕ → Bool} {a b : ℕ → ℕ} (sides : Sides rows n m first second) (cut : Cut rows n m first second S a b) where
+module _ {rows n m : ℕ} {first second : ℕ → ℕ} {S : ℕ → Bool} {a b : ℕ → ℕ} (sides : NearFar rows n m first second) (cut : Cut rows n m first second S a b) where
   -- The near vertices of the set, and the far ones.
   abbrev N : ℕ → ℕ
   N v = one (S v && ltb v rows)
@@ -138,7 +138,7 @@ module _ {rows n m : ℕ} {first second : ℕ → ℕ} {S : ℕ → Bool} {a b :
 
 -- ---- what a closed set says of every choice
 
-module _ {rows n m : ℕ} {first second : ℕ → ℕ} {S : ℕ → Bool} {least most x y : ℕ → ℕ} (sides : Sides rows n m first second)
+module _ {rows n m : ℕ} {first second : ℕ → ℕ} {S : ℕ → Bool} {least most x y : ℕ → ℕ} (sides : NearFar rows n m first second)
     (marks : (e : ℕ) → e < m → x e ≤ 1) (closed : Closed m first second x S) (choice : Choice n m first second least most y)
     (shut : Shut rows n m first second least most x S) where
   -- Of the edges that leave the set by their far end x has all, and of those that leave by their near end none.

@@ -11,14 +11,14 @@ use borrow.Author.Tests.{ltb-true, lt-ltb}
 use Rattle.graph.specs.Limits.{greatestWeight}
 use Rattle.graph.specs.Graph.{Graph, vertices, firstEnd, secondEnd}
 use Rattle.graph.specs.Subgraph.{markAt, degree}
-use Rattle.tree.proofs.Solvable.{rows-in, first-to, second-from, second-to, value-in}
-use Rattle.tree.proofs.Leading.{lt-or-ge, out, back, slack-out, slack-back}
-use Rattle.kilter.specs.Count.{Sides, Closed, Choice, Shut}
-use Rattle.tree.specs.Method.{level, weightless, topPrice, value, Solvable, Meets, Good}
-use Rattle.tree.specs.Tree.{tail, head, slack}
-use Rattle.tree.specs.Front.{far, Exits, SearchGrown}
+use Rattle.method.proofs.Solvable.{rows-in, first-to, second-from, second-to, value-in}
+use Rattle.method.proofs.Leading.{lt-or-ge, out, back, slack-out, slack-back}
+use Rattle.kilter.specs.Count.{NearFar, Closed, Choice, Shut}
+use Rattle.method.specs.Method.{level, weightless, topPrice, value, Solvable, Meets, Good}
+use Rattle.method.specs.Tree.{tail, head, slack}
+use Rattle.method.specs.Front.{far, Exits, SearchGrown}
 use Rattle.kilter.proofs.Count.{no-choice}
-use Rattle.tree.proofs.Range as Range
+use Rattle.method.proofs.Range as Range
 
 module _ {g : Graph} {least most : ℕ → ℕ} {x : List ℕ} {price exit dist label spot : ℕ → ℕ} {root count : ℕ}
     (net : Solvable g) (good : Good g least most x price) (root-near : root < g .rows) (exits : Exits g least most x price root exit)
@@ -91,7 +91,7 @@ module _ {g : Graph} {least most : ℕ → ℕ} {x : List ℕ} {price exit dist 
     far = λ v r l s. ⊎-elim (λ d. absurd (no-way-far v r l (seen v s) (exits .away v r l d))) (λ d. d) (lt-or-ge (degree g x v) (most v));
   }
 
-  sides : Sides (g .rows) (vertices g) (g .edges) (firstEnd g) (secondEnd g)
+  sides : NearFar (g .rows) (vertices g) (g .edges) (firstEnd g) (secondEnd g)
   sides = record { rows-in = rows-in net; near = first-to net; far = second-from net; inside = second-to net }
 
   pub none-meets : {y : List ℕ} → Meets g least most y → ⊥

@@ -6,7 +6,7 @@ use mathlib.Core.Bool.{Bool, true, false}
 use Rattle.integers.specs.Sum.{sum, is}
 
 -- The ends of m edges between rows near vertices and the far ones up to n.
-pub record Sides (rows n m : ℕ) (first second : ℕ → ℕ) : Type 0 where
+pub record NearFar (rows n m : ℕ) (first second : ℕ → ℕ) : Type 0 where
   pub rows-in : rows ≤ n
   pub near : (e : ℕ) → e < m → first e < rows
   pub far : (e : ℕ) → e < m → rows ≤ second e

@@ -14,7 +14,7 @@ use Rattle.graph.specs.declared.Fault.the-variants.{TextLength, Sizes, LentLeng
 use Rattle.graph.specs.Limits.{mostVertices, mostEdges, longestText}
 use Rattle.graph.specs.Refusal.{Outcome, yields, refuses, Test, once, passing}
 use Rattle.graph.specs.Graph.{Graph, vertices, rowAt, columnAt, weightAt, shapeInRange}
-use Rattle.graph.specs.Tests.{graphLengths, graphTests, boundTest, kindTest, oneTest}
+use Rattle.graph.specs.Tests.{oneTest, bipartiteTests}
 use Rattle.layout.specs.declared.Rules.the-variants.{New}
 use Rattle.layout.specs.Text.{bytes, lines, words, natural, integer, oneWord, twoWords, threeWords, same, begins, blankLine, startsWith}
 use Rattle.layout.specs.Text.{textFits, lineFits, decimal, signed, spaced, unlines}
@@ -48,12 +48,10 @@ arcLines g (suc n) = arcLines g n ++ (arcLine g n ∷ [])
 unfoldable pub assignmentText : Graph → List ℕ
 assignmentText g = unlines (problemLine g ∷ (sourceLines (g .rows) ++ arcLines g (g .edges)))
 
--- The tests of the call that writes it, where its output has n bytes: the lengths (9), the graph's numbers (4, 6, 7, 8), the bounds (10), the kind (16),
--- and that each bound is 1 (19); and what the call yields.
+-- The tests of the call that writes it, where its output has n bytes: those of a bipartite graph with bounds, and that each bound is 1 (19); and what the
+-- call yields.
 abbrev pub assignmentTests : Graph → List ℤ → ℕ → List Test
-assignmentTests g bound n =
-    once LentLength (graphLengths g && (eqb (length bound) (vertices g) && eqb n longestText))
-    ∷ (graphTests g ++ (boundTest g bound ∷ kindTest g ∷ oneTest g bound ∷ []))
+assignmentTests g bound n = bipartiteTests g bound (eqb n longestText) ++ (oneTest g bound ∷ [])
 
 unfoldable pub writeAssignment : Graph → List ℤ → ℕ → Outcome (List ℕ)
 writeAssignment g bound n = passing (assignmentTests g bound n) (yields (assignmentText g))

@@ -91,10 +91,10 @@ integer rules (x ∷ w) =
     (cond (eqb x 45) (Option·map (λ n. negℤ (pos n)) (afterMinus rules (natural rules w))) (Option·map pos (natural rules (x ∷ w))))
 
 -- Both, or all three, where none is absent.
-abbrev pub both : {A B : Type 0} → Option A → Option B → Option (A × B)
-both none b = none
-both (some a) none = none
-both (some a) (some b) = some (a, b)
+abbrev pub bothSome : {A B : Type 0} → Option A → Option B → Option (A × B)
+bothSome none b = none
+bothSome (some a) none = none
+bothSome (some a) (some b) = some (a, b)
 
 abbrev pub all3 : {A B C : Type 0} → Option A → Option B → Option C → Option (A × B × C)
 all3 none b c = none
@@ -111,7 +111,7 @@ oneWord f (u ∷ v ∷ ws) = none
 unfoldable pub twoWords : {A B : Type 0} → (List ℕ → Option A) → (List ℕ → Option B) → List (List ℕ) → Option (A × B)
 twoWords f g [] = none
 twoWords f g (u ∷ []) = none
-twoWords f g (u ∷ v ∷ []) = both (f u) (g v)
+twoWords f g (u ∷ v ∷ []) = bothSome (f u) (g v)
 twoWords f g (u ∷ v ∷ w ∷ ws) = none
 
 unfoldable pub threeWords :

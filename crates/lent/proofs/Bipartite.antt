@@ -21,12 +21,13 @@ use Rattle.graph.proofs.Passing.{passing-append}
 use Rattle.graph.proofs.Ranges.{both}
 use Rattle.checks.specs.declared.Check.{Check}
 use Rattle.checks.specs.declared.Check.the-variants as Check
-use Rattle.checks.specs.declared.Lowest.{Lowest}
-use Rattle.checks.specs.declared.Lowest.the-variants as Lowest
-use Rattle.checks.specs.Checks.{lowestSays, checkSays}
-use Rattle.checks.proofs.Scan.{says}
+use Rattle.lowest.specs.declared.Lowest.{Lowest}
+use Rattle.lowest.specs.declared.Lowest.the-variants as Lowest
+use Rattle.lowest.specs.Lowest.{lowestSays}
+use Rattle.checks.specs.Checks.{checkSays}
+use Rattle.lowest.proofs.Scan.{says}
 use Rattle.checks.proofs.Tests.{part-refuses, part-passes, first-refuses, second-refuses, none-refuses, place-fits}
-use Rattle.lent.specs.Bipartite.{bipartiteTests}
+use Rattle.graph.specs.Tests.{bipartiteTests}
 use Rattle.lent.proofs.Lengths.{lent-passed}
 
 -- ---- what the tests show

@@ -1,4 +1,3 @@
-pub mod Setting
 pub mod Filling
 pub mod Lengths
 pub mod Parts

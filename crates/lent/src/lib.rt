@@ -1,22 +1,21 @@
-// What a caller lends: tests of the lengths and the numbers of a graph, and outputs that are cleared or filled.
+// What a caller lends: tests of the lengths and the numbers of a graph.
 use checks::Check;
-use checks::Lowest;
-use checks::both;
 use graph::Fault;
 use graph::Kind;
 use graph::Shape;
+use integers::both;
+use lowest::Lowest;
 ghost use mathlib.Core.Path.{_≡_};
 ghost use mathlib.Core.Bool.{_&&_};
 ghost use mathlib.Core.List.{_∷_};
 ghost use lib.Dec.{eqb};
-ghost use lib.IntN.{pos};
-ghost use lib.ListN.{length, replicate};
+ghost use lib.ListN.{length};
 ghost use Rattle.graph.specs.declared.Fault.the-variants.{LentLength};
 ghost use Rattle.graph.specs.Refusal.{yields, once, passing};
 ghost use Rattle.graph.specs.Graph.{graphOf};
 ghost use Rattle.graph.specs.Tests.{graphLengths, graphTests};
 ghost use Rattle.checks.specs.Checks.{checkSays};
-ghost use Rattle.lent.specs.Bipartite.{bipartiteTests};
+ghost use Rattle.graph.specs.Tests.{bipartiteTests};
 
 // Whether what is lent of a graph is as long as the number of edges passed.
 fn lengths_match(edges: u32, row: &[u32], column: &[u32], weight: &[i32]) -> bool
@@ -48,11 +47,11 @@ pub fn check_bipartite(
 ) -> Check
     ensures { λ r. ⌜ checkSays r ≡ passing (bipartiteTests (graphOf s (now (row .entry)) (now (column .entry)) (now (weight .entry))) (now (bound .entry)) others) (yields tt) ⌝ }
 {
-    let long = bound.len() == checks::vertex_count(s) as usize;
+    let long = bound.len() == graph::vertex_count(s) as usize;
     if let Check::Refused(r) = check_lent(s, row, column, weight, both(long, others)) {
         return Check::Refused(r);
     }
-    if let Lowest::At(v) = checks::lowest_bound(bound) {
+    if let Lowest::At(v) = lowest::lowest_bound(bound) {
         return checks::refused_item(Fault::Bound, v);
     }
     let kind = s.kind;
@@ -60,42 +59,4 @@ pub fn check_bipartite(
         return checks::refused(Fault::NotBipartite, 0);
     }
     Check::Passed
-}
-
-// Sets every number of `out` to k.
-pub fn fill(out: &mut [i32], k: i32)
-    ensures { λ _. ⌜ now (out .exit) ≡ replicate (length (now (out .entry))) k ⌝ }
-{
-    let mut i = 0;
-    while i < out.len() {
-        out[i] = k;
-        i += 1;
-    }
-}
-
-// Sets every number of `out` to 0.
-pub fn clear_integers(out: &mut [i32])
-    ensures { λ _. ⌜ now (out .exit) ≡ replicate (length (now (out .entry))) (pos 0) ⌝ }
-{
-    fill(out, 0);
-}
-
-pub fn clear_naturals(out: &mut [u32])
-    ensures { λ _. ⌜ now (out .exit) ≡ replicate (length (now (out .entry))) 0 ⌝ }
-{
-    let mut k = 0;
-    while k < out.len() {
-        out[k] = 0;
-        k += 1;
-    }
-}
-
-pub fn clear_bytes(out: &mut [u8])
-    ensures { λ _. ⌜ now (out .exit) ≡ replicate (length (now (out .entry))) 0 ⌝ }
-{
-    let mut b = 0;
-    while b < out.len() {
-        out[b] = 0;
-        b += 1;
-    }
 }

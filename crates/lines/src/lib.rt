@@ -188,6 +188,16 @@ pub fn refused_at(fault: Fault, next: Cursor) -> Refusal
     }
 }
 
+// The refusal of a line of an assignment text: missing, too long, or not what should stand there.
+pub fn wrong_line(place: u64) -> Refusal
+    ensures { λ r. ⌜ r ≡ record { fault = Fault.AssignmentLine; place = place } ⌝ }
+{
+    Refusal {
+        fault: Fault::AssignmentLine,
+        place,
+    }
+}
+
 // The tests before a text is read, of which a reader has made its own: what is lent, the sizes asked for, and the text's length.
 pub fn check_text(s: &[u8], lent: bool, sizes: bool) -> Check
     ensures { λ r. ⌜ checkSays r ≡ passing (once LentLength lent ∷ once Sizes sizes ∷ once TextLength (textFits (now (s .entry))) ∷ []) (yields tt) ⌝ }

@@ -1,10 +1,9 @@
 // The program `mark`: reads sheet.mtx, limits.mtx, plan.mtx and prices.mtx from the working folder, and writes the line of the measuring, or a refusal.
 // Its stored run is the worked example of document 01.
-use graph::LONGEST_TEXT;
-use report::LINE_BYTES;
+mod output;
 
-// One byte more than a text may have, so that a longer file is seen to be too long.
-const FILE_BYTES: usize = LONGEST_TEXT + 1;
+use files::FILE_BYTES;
+use report::LINE_BYTES;
 
 fn main() {
     let mut sheet = [0u8; FILE_BYTES];
@@ -16,7 +15,7 @@ fn main() {
     let mut prices = [0u8; FILE_BYTES];
     let q = files::read(b"prices.mtx", &mut prices);
     let mut out = [0u8; LINE_BYTES];
-    let n = mark_writer::mark(
+    let n = output::mark_output(
         &sheet[..s],
         &limits[..l],
         &plan[..p],

@@ -28,9 +28,10 @@ use Rattle.dual.specs.Gap.{halfPoints, worthAt, coverOf, covered, payOf, totalO
 use Rattle.dual.specs.Measure.{measures, priceTest}
 use Rattle.checks.specs.declared.Check.{Check}
 use Rattle.checks.specs.declared.Check.the-variants as Check
-use Rattle.checks.specs.declared.Lowest.{Lowest}
-use Rattle.checks.specs.Checks.{lowestSays, checkSays}
-use Rattle.checks.proofs.Counting.{counted-over}
+use Rattle.lowest.specs.declared.Lowest.{Lowest}
+use Rattle.lowest.specs.Lowest.{lowestSays}
+use Rattle.checks.specs.Checks.{checkSays}
+use Rattle.graph.proofs.Counting.{counted-over}
 use Rattle.sets.specs.Words.{keepsRulesBy}
 use Rattle.measure.specs.declared.Tables.{Tables}
 use Rattle.measure.specs.Shown.{priceTests}

@@ -1,8 +1,6 @@
 // The measuring call: a subgraph (plan) measured against prices.
 // The words `set_vertices`, 2 a set, mark vertices, and `set_edges`, 16 a set, mark edges.
 use checks::Check;
-use checks::Lowest;
-use checks::both;
 use dual::MeasureAnswer;
 use dual::Measures;
 use graph::EDGE_WORDS;
@@ -13,6 +11,8 @@ use graph::MOST_VERTICES;
 use graph::Refusal;
 use graph::Shape;
 use graph::VERTEX_WORDS;
+use integers::both;
+use lowest::Lowest;
 ghost use Prim.Native.Nat.{ℕ, _+_, _*_, _^_, _≤_, _<_};
 ghost use mathlib.Core.Path.{_≡_};
 ghost use mathlib.Core.Bool.{true, _&&_};
@@ -57,7 +57,7 @@ fn others_match(
 ) -> bool
     ensures { λ r. ⌜ r ≡ (eqb (length (now (bound .entry))) (verticesIn s) && eqb (length (now (chosen .entry))) (s .edges) && eqb (length (now («vertex_price» .entry))) (verticesIn s) && eqb (length (now («edge_price» .entry))) (s .edges) && eqb (length (now («set_price» .entry))) sets && eqb (length (now («set_vertices» .entry))) (vertexWords * sets) && eqb (length (now («set_edges» .entry))) (edgeWords * sets)) ⌝ }
 {
-    let n = checks::vertex_count(s) as usize;
+    let n = graph::vertex_count(s) as usize;
     let m = s.edges as usize;
     let count = sets as usize;
     let subgraph = both(bound.len() == n, chosen.len() == m);
@@ -87,10 +87,10 @@ fn check_subgraph(
     if let Check::Refused(r) = graph {
         return Check::Refused(r);
     }
-    if let Lowest::At(v) = checks::lowest_bound(bound) {
+    if let Lowest::At(v) = lowest::lowest_bound(bound) {
         return checks::refused_item(Fault::Bound, v);
     }
-    if let Lowest::At(e) = checks::lowest_mark(chosen) {
+    if let Lowest::At(e) = lowest::lowest_mark(chosen) {
         return checks::refused_item(Fault::Mark, e);
     }
     Check::Passed
@@ -107,10 +107,10 @@ fn check_prices(
     requires { ⌜ (length (now bound) ≤ mostVertices) × (length (now «vertex_price») + (length (now «edge_price») + length (now «set_price»)) < 2 ^ 40) ⌝ }
     ensures { λ r. ⌜ checkSays r ≡ passing (each Degree (length (now (bound .entry))) (λ v. leZ (pos (getD degree v 0)) (boundAt (now (bound .entry)) v)) ∷ priceTest (pricesOf (now («vertex_price» .entry)) (now («edge_price» .entry)) 0 (now («set_price» .entry)) [] []) ∷ []) (yields tt) ⌝ }
 {
-    if let Lowest::At(v) = checks::lowest_over(degree, bound) {
+    if let Lowest::At(v) = lowest::lowest_over(degree, bound) {
         return checks::refused_item(Fault::Degree, v);
     }
-    if let Lowest::At(k) = checks::lowest_price(vertex_price, edge_price, set_price) {
+    if let Lowest::At(k) = lowest::lowest_price(vertex_price, edge_price, set_price) {
         return checks::refused_item(Fault::Price, k);
     }
     Check::Passed
@@ -133,7 +133,7 @@ fn total_of(
     let vertices = sums::vertex_total(s, bound, vertex_price);
     let odd = sums::set_total(sets, load, set_price);
     let own = sums::edge_total(s.edges, edge_price);
-    integers::add(integers::add(vertices, odd), own)
+    terms::total_parts(vertices, odd, own)
 }
 
 // The seven numbers, from the tables and the cover of each edge.
@@ -158,7 +158,6 @@ fn numbers(
     let covered = tables.covered;
     let total = total_of(s, bound, vertex_price, edge_price, sets, set_price, load);
     let chosen_weight = sums::weight_of(s.edges, weight, chosen);
-    let worth = dual::half_points(chosen_weight);
     Measures {
         weight: chosen_weight,
         total,
@@ -166,12 +165,12 @@ fn numbers(
         sets: sums::set_slack(sets, load, covered, set_price),
         edges: sums::edge_slack(s.edges, chosen, edge_price),
         cover: sums::cover_slack(s.edges, cover, weight, chosen),
-        gap: integers::subtract(total, worth),
+        gap: terms::gap_between(total, chosen_weight),
     }
 }
 
 // The answer that refuses item k, whose place counts from 1.
-fn refused_at(fault: Fault, k: usize) -> MeasureAnswer
+fn refused_measure(fault: Fault, k: usize) -> MeasureAnswer
     requires { ⌜ k < 2 ^ 40 ⌝ }
     ensures { λ r. ⌜ r ≡ MeasureAnswer.Refused (record { fault = fault; place = k + 1 }) ⌝ }
 {
@@ -214,7 +213,7 @@ fn measure_tabled(
         &mut cover,
     );
     if let Lowest::At(e) = sums::lowest_uncovered(s.edges, weight, &cover) {
-        return refused_at(Fault::Uncovered, e);
+        return refused_measure(Fault::Uncovered, e);
     }
     MeasureAnswer::Measured(numbers(
         s,
@@ -248,13 +247,13 @@ fn measure_passed(
     requires { ⌜ SubgraphShown (graphOf s (now row) (now column) (now weight)) (now bound) (now chosen) (pricesOf (now «vertex_price») (now «edge_price») sets (now «set_price») (now «set_vertices») (now «set_edges»)) ⌝ }
     ensures { λ r. ⌜ measureSays r ≡ told (yieldsLater (graphOf s (now (row .entry)) (now (column .entry)) (now (weight .entry))) (now (bound .entry)) (now (chosen .entry)) (pricesOf (now («vertex_price» .entry)) (now («edge_price» .entry)) sets (now («set_price» .entry)) (now («set_vertices» .entry)) (now («set_edges» .entry)))) ⌝ }
 {
-    let degree = checks::degrees(s, row, column, chosen);
+    let degree = graph::degrees(s, row, column, chosen);
     if let Check::Refused(r) = check_prices(degree, bound, vertex_price, edge_price, set_price) {
         return MeasureAnswer::Refused(r);
     }
     let load = sets::load_table(s, bound, sets, set_vertices, set_edges);
     if let Lowest::At(k) = sets::lowest_set(s, row, column, load, sets, set_vertices, set_edges) {
-        return refused_at(Fault::OddSet, k);
+        return refused_measure(Fault::OddSet, k);
     }
     let covered = sets::covered_table(s, row, column, chosen, sets, set_vertices, set_edges);
     let tables = Tables {

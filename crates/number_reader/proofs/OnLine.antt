@@ -19,10 +19,11 @@ use Rattle.layout.specs.Lines.{Step, goes, stops}
 use Rattle.layout.specs.NumberText.{inRange, outside, numberJudged, numberHeader, numberSizes, numberValue}
 use Rattle.text.specs.declared.Pair.{Pair}
 use Rattle.text.specs.declared.Pair.the-variants as Pair
-use Rattle.text.specs.declared.Integer.{Integer}
-use Rattle.text.specs.declared.Integer.the-variants as Integer
-use Rattle.text.specs.Cursor.{pairSays, integerSays}
-use Rattle.text.proofs.Integers.{one-fits}
+use Rattle.numerals.specs.declared.Integer.{Integer}
+use Rattle.numerals.specs.declared.Integer.the-variants as Integer
+use Rattle.numerals.specs.Numerals.{integerSays}
+use Rattle.text.specs.Cursor.{pairSays}
+use Rattle.text.proofs.Shapes.{one-fits}
 use Rattle.number_reader.specs.declared.NumberLine.{NumberLine}
 use Rattle.number_reader.specs.OnLine.{valueSays}
 

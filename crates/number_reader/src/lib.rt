@@ -1,9 +1,6 @@
 // Reads a text of bounds (limits) or of prices.
 use checks::Check;
 use graph::Fault;
-use graph::GREATEST_BOUND;
-use graph::GREATEST_OLD_PRICE;
-use graph::GREATEST_PRICE;
 use graph::MOST_NUMBERS;
 use graph::MOST_OLD_NUMBERS;
 use layout::Numbers;
@@ -11,19 +8,18 @@ use layout::NumbersAnswer;
 use layout::Rules;
 use lines::Later;
 use lines::Opened;
+use numerals::Integer;
 use text::Cursor;
-use text::Integer;
 use text::Pair;
 ghost use mathlib.Core.Path.{_≡_};
 ghost use mathlib.Core.List.{List, []};
 ghost use lib.IntN.{ℤ, pos};
 ghost use lib.ListN.{length, replicate};
-ghost use Rattle.integers.specs.Integer.{between};
 ghost use Rattle.graph.specs.Graph.{upTo};
 ghost use Rattle.graph.specs.Refusal.{told, reported, output};
 ghost use Rattle.layout.specs.Text.{words, natural, integer, oneWord, twoWords};
 ghost use Rattle.layout.specs.Lines.{reading};
-ghost use Rattle.layout.specs.NumberText.{mostNumbersBy, greatestPriceBy, inRange, outside, numberJudged, numberSizes, numberValue, numberLayout, readNumbersBy, readNumbers};
+ghost use Rattle.layout.specs.NumberText.{mostNumbersBy, outside, numberJudged, numberSizes, numberValue, numberLayout, readNumbersBy, readNumbers};
 ghost use Rattle.layout.specs.Answers.{numbersSay};
 ghost use Rattle.lines.specs.Walk.{Walk};
 ghost use Rattle.number_reader.specs.OnLine.{countSays, valueSays, ValueInRange, NumbersReading};
@@ -41,7 +37,7 @@ fn most_numbers(rules: Rules) -> u32
 fn count_in_range(rules: Rules, count: u32) -> bool
     ensures { λ r. ⌜ r ≡ upTo (mostNumbersBy rules) count ⌝ }
 {
-    checks::both(1 <= count, count <= most_numbers(rules))
+    integers::both(1 <= count, count <= most_numbers(rules))
 }
 
 // What a size line is: the one asked for, or refused.
@@ -50,7 +46,7 @@ enum CountLine {
     Refused(Fault),
 }
 
-fn size_on(line: &[u8], count: u32, rules: Rules) -> CountLine
+fn count_on(line: &[u8], count: u32, rules: Rules) -> CountLine
     ensures { λ r. ⌜ countSays r ≡ numberSizes count (twoWords (natural rules) (natural rules) (words (now (line .entry)))) ⌝ }
 {
     let Pair::Is(rows, columns) = text::two_naturals(line, rules) else {
@@ -71,32 +67,6 @@ enum NumberLine {
     Refused(Fault),
 }
 
-// How great a price may be by the rules.
-fn greatest_price(rules: Rules) -> i32
-    ensures { λ r. ⌜ r ≡ pos (greatestPriceBy rules) ⌝ }
-{
-    match rules {
-        Rules::New => GREATEST_PRICE,
-        Rules::Old => GREATEST_OLD_PRICE,
-    }
-}
-
-// The greatest number of a sort, by the rules.
-fn greatest(rules: Rules, what: Numbers) -> i32
-    ensures { λ r. ⌜ ((z : ℤ) → between (pos 0) r z ≡ inRange rules what z) ⌝ }
-{
-    match what {
-        Numbers::Bounds => GREATEST_BOUND,
-        Numbers::Prices => greatest_price(rules),
-    }
-}
-
-fn in_range(rules: Rules, what: Numbers, z: i32) -> bool
-    ensures { λ r. ⌜ r ≡ inRange rules what z ⌝ }
-{
-    integers::in_range(z, 0, greatest(rules, what))
-}
-
 fn outside(what: Numbers) -> Fault
     ensures { λ r. ⌜ r ≡ outside what ⌝ }
 {
@@ -111,7 +81,7 @@ fn judge(rules: Rules, what: Numbers, z: i32) -> NumberLine
     ensures says { λ r. ⌜ ((zs : List ℤ) → valueSays zs r ≡ numberJudged rules what zs z) ⌝ }
     ensures ranged { λ r. ⌜ ValueInRange rules what r ⌝ }
 {
-    if in_range(rules, what, z) {
+    if ranges::number_in_range(rules, what, z) {
         NumberLine::Is(z)
     } else {
         NumberLine::Refused(outside(what))
@@ -166,7 +136,7 @@ fn read_values(
 }
 
 // The whole text, into `out`, which is cleared.
-fn read_lines(
+fn read_number_lines(
     text: &[u8],
     rules: Rules,
     what: Numbers,
@@ -180,12 +150,12 @@ fn read_lines(
         Opened::Refused(r) => NumbersAnswer::Refused(r),
         Opened::At { start, end, next } => {
             let line = &text[start..end];
-            if !text::is_header(line, b"matrix", b"array", b"integer", b"general") {
+            if !headers::is_header(line, b"matrix", b"array", b"integer", b"general") {
                 return NumbersAnswer::Refused(lines::refused_at(Fault::Header, next));
             }
             match lines::size_line(text, next) {
                 Opened::Refused(r) => NumbersAnswer::Refused(r),
-                Opened::At { start, end, next } => match size_on(&text[start..end], count, rules) {
+                Opened::At { start, end, next } => match count_on(&text[start..end], count, rules) {
                     CountLine::Refused(fault) => {
                         NumbersAnswer::Refused(lines::refused_at(fault, next))
                     }
@@ -207,14 +177,14 @@ pub fn read_numbers_by(
     ensures answer { λ r. ⌜ numbersSay r ≡ told (reported (λ zs. tt) (readNumbersBy rules what count (length (now (out .entry))) (now (text .entry)))) ⌝ }
     ensures numbers { λ _. ⌜ now (out .exit) ≡ output (length (now (out .entry))) (pos 0) (λ zs. zs) (readNumbersBy rules what count (length (now (out .entry))) (now (text .entry))) ⌝ }
 {
-    lent::clear_integers(out);
+    filling::clear_integers(out);
     let counted = count_in_range(rules, count);
     match lines::check_text(text, out.len() == count as usize, counted) {
         Check::Refused(r) => NumbersAnswer::Refused(r),
-        Check::Passed => match read_lines(text, rules, what, count, out) {
+        Check::Passed => match read_number_lines(text, rules, what, count, out) {
             NumbersAnswer::Read => NumbersAnswer::Read,
             NumbersAnswer::Refused(r) => {
-                lent::clear_integers(out);
+                filling::clear_integers(out);
                 NumbersAnswer::Refused(r)
             }
         },

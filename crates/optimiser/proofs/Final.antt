@@ -20,8 +20,8 @@ use Rattle.dual.specs.Solve.{outputsOf, withoutSets, SolverPrice, Solved}
 use Rattle.duality.proofs.Conditions.{Incident, DualFeasible}
 use Rattle.duality.proofs.Passed.{passed-incident}
 use Rattle.duality.proofs.Duality.{complementary, no-gap}
-use Rattle.tree.specs.Method.{level, weightless, value, cost, limit, Solvable, Good, Served}
-use Rattle.tree.proofs.Solvable.{value-least, value-most}
+use Rattle.method.specs.Method.{level, weightless, value, cost, naturalBound, Solvable, Good, Served}
+use Rattle.method.proofs.Solvable.{value-least, value-most}
 use Rattle.pricing.specs.Pricing.{HandedOut}
 use Rattle.pricing.proofs.Paying.{times-one, times-none}
 
@@ -34,12 +34,12 @@ weight-value z h = go (z +ℤ pos (weightless)) (up-add z (pos (weightless))) h
     go (negsuc n) e l = absurd (omega arith)
 
 -- What is above b makes a up.
-taken : (k a b : ℕ) → k ≡ 1 → b ≤ a → k * (a - b) + b ≡ a
-taken k a b e l = omega (arith, times-one k (a - b) e)
+made-up : (k a b : ℕ) → k ≡ 1 → b ≤ a → k * (a - b) + b ≡ a
+made-up k a b e l = omega (arith, times-one k (a - b) e)
 
 module _ {g : Graph} {bound : List ℤ} {x : List ℕ} {price : ℕ → ℕ} {vertex edge : List ℤ} (net : Solvable g)
     {least most : ℕ → ℕ} (bounded : Bounded (vertices g) bound) (none-least : (v : ℕ) → v < vertices g → least v ≡ 0)
-    (most-is : (v : ℕ) → v < vertices g → most v ≡ limit bound v) (good : Good g least most x price)
+    (most-is : (v : ℕ) → v < vertices g → most v ≡ naturalBound bound v) (good : Good g least most x price)
     (done : (v : ℕ) → v < g .rows → Served g least most x price v) (out : HandedOut g x price vertex edge) where
   -- No price is below 0, and none above the greatest weight.
   lowest : (v : ℕ) → v < vertices g → level ≤ price v
@@ -76,7 +76,7 @@ module _ {g : Graph} {bound : List ℤ} {x : List ℕ} {price : ℕ → ℕ} {ve
         let k : markAt x e ≡ 1 = omega (arith, good .marks e) in
         omega (
           arith,
-          taken (markAt x e) (value g e) (cost g price e) k (good .chosen e l k),
+          made-up (markAt x e) (value g e) (cost g price e) k (good .chosen e l k),
           value-most net e l,
           lowest (firstEnd g e) (ends .first e l),
           lowest (secondEnd g e) (ends .second e l),
@@ -101,7 +101,7 @@ module _ {g : Graph} {bound : List ℤ} {x : List ℕ} {price : ℕ → ℕ} {ve
     just k =
         omega (
           arith,
-          taken (markAt x e) (value g e) (cost g price e) k (good .chosen e l k),
+          made-up (markAt x e) (value g e) (cost g price e) k (good .chosen e l k),
           weight-value (weightAt g e) (omega (arith, value-least net e l)),
           lowest (firstEnd g e) (ends .first e l),
           lowest (secondEnd g e) (ends .second e l),
@@ -145,7 +145,7 @@ module _ {g : Graph} {bound : List ℤ} {x : List ℕ} {price : ℕ → ℕ} {ve
             ap (λ y. y -ℤ worthAt g e) cover-is ∙ omega (order, just k, up-diff (pos paid) (worthAt g e), up-times 2 (weightAt g e))
 
   -- A vertex with a price above 0 is saturated.
-  saturated : (v : ℕ) → v < vertices g → level < price v → degree g x v ≡ limit bound v
+  saturated : (v : ℕ) → v < vertices g → level < price v → degree g x v ≡ naturalBound bound v
   saturated v l s = elim (decLt v (g .rows)) [ yes d ↦ done v d .full s ∙ most-is v l | no d ↦ good .full v (omega (arith, d)) l s ∙ most-is v l ]
 
   vertex-slack : (v : ℕ) → v < vertices g → vertexPrice P v *ℤ (boundAt bound v -ℤ pos (degree g x v)) ≡ pos 0

@@ -1,4 +1,3 @@
 -- The laws of the stages, and that the method's end is a solution.
 pub mod Start
-pub mod Serving
 pub mod Final

@@ -14,11 +14,11 @@ use Rattle.graph.specs.Limits.{mostVertices, greatestWeight, greatestBound}
 use Rattle.graph.specs.Graph.{Graph, vertices, firstEnd, secondEnd}
 use Rattle.graph.specs.Subgraph.{markAt, endsAt, degree}
 use Rattle.graph.specs.Passed.{Bounded}
-use Rattle.tree.specs.Method.{level, value, cost, limit, Solvable, Meets}
-use Rattle.tree.specs.Tree.{entries}
-use Rattle.tree.specs.Lists.{leasts, mosts, mostTable, Between}
-use Rattle.tree.proofs.Lists.{empty-lists}
-use Rattle.tree.proofs.Solvable.{few, first-to, second-from, second-to, value-most}
+use Rattle.method.specs.Method.{level, value, cost, naturalBound, Solvable, Meets}
+use Rattle.method.specs.Tree.{entries}
+use Rattle.method.specs.Lists.{leasts, mosts, mostTable, Between}
+use Rattle.method.proofs.Lists.{empty-lists}
+use Rattle.method.proofs.Solvable.{few, first-to, second-from, second-to, value-most}
 use Rattle.arcs.specs.Arcs.{SameBounds}
 use Rattle.optimiser.specs.Optimiser.{Raised, Started, BoundsTabled}
 
@@ -85,12 +85,12 @@ start-end S l = record { least = S .least; most = S .most; column = S .column; l
 -- The table with the mosts of the vertices before n.
 pub record FilledTo (bound : List ℤ) (table : List ℕ) (n : ℕ) : Type 0 where
   pub least : (v : ℕ) → v < mostVertices → leasts table v ≡ 0
-  pub most : (v : ℕ) → v < n → mosts table v ≡ limit bound v
+  pub most : (v : ℕ) → v < n → mosts table v ≡ naturalBound bound v
   pub long : length table ≡ mostTable
 
 -- A list of zeros has 0 everywhere.
-pub zeros : (n v : ℕ) → entries (replicate n 0) v ≡ 0
-zeros n v = elim (decLt v n) [
+pub zero-entries : (n v : ℕ) → entries (replicate n 0) v ≡ 0
+zero-entries n v = elim (decLt v n) [
   | yes l ↦ getD-replicate n v 0 0 l
   | no l ↦ List·getD-eq-default (replicate n 0) 0 (omega (arith, l, length-replicate {A = ℕ} n 0))
 ]
@@ -106,18 +106,18 @@ bounds-in B few T v l = (
 -- The table before any bound, and with one more.
 pub table-none : {bound : List ℤ} → FilledTo bound (replicate mostTable 0) 0
 table-none {bound} = record {
-  least = λ v l. zeros mostTable (2 * mostVertices + v);
+  least = λ v l. zero-entries mostTable (2 * mostVertices + v);
   most = λ v l. absurd (omega arith);
   long = length-replicate {A = ℕ} mostTable 0;
 }
 
-pub table-more : {bound : List ℤ} {table : List ℕ} {n k : ℕ} → FilledTo bound table n → n < mostVertices → k ≡ limit bound n →
+pub table-more : {bound : List ℤ} {table : List ℕ} {n k : ℕ} → FilledTo bound table n → n < mostVertices → k ≡ naturalBound bound n →
     FilledTo bound (set table (3 * mostVertices + n) k) (n + 1)
 table-more {bound} {table} {n} {k} F l e = record {
   least = λ v a. getD-set-other table (3 * mostVertices + n) (2 * mostVertices + v) k 0 (λ i. omega (arith, i)) ∙ F .least v a;
   most = λ v a. elim (ℕ-discrete v n) [
     | yes i ↦ ap (λ j. getD (set table (3 * mostVertices + n) k) (3 * mostVertices + j) 0) i
-        ∙ getD-set-same table (3 * mostVertices + n) k 0 (omega (arith, F .long)) ∙ e ∙ ap (limit bound) (sym i)
+        ∙ getD-set-same table (3 * mostVertices + n) k 0 (omega (arith, F .long)) ∙ e ∙ ap (naturalBound bound) (sym i)
     | no i ↦ getD-set-other table (3 * mostVertices + n) (3 * mostVertices + v) k 0 (λ j. i (omega (arith, j))) ∙ F .most v (omega (arith, i))
   ];
   long = simp length-set (F .long);

@@ -1,13 +1,11 @@
-// The stages of the method: what the searches are lent, the first prices, and each row vertex served.
+// The stages of the method: what the searches are lent, the first prices, the row vertices served, and the prices handed out.
 use graph::MOST_EDGES;
 use graph::MOST_VERTICES;
 use graph::Shape;
-use roots::Roots;
-use tree::LEVEL;
-use tree::MOST_ARCS;
-use tree::MOST_LISTED;
-use tree::MOST_TABLE;
-use tree::MOSTS;
+use method::LEVEL;
+use method::MOST_ARCS;
+use method::MOST_TABLE;
+use method::MOSTS;
 ghost use Prim.Native.Nat.{_-_, _≤_, _<_};
 ghost use mathlib.Core.Path.{_≡_};
 ghost use lib.ListN.{length, replicate};
@@ -16,11 +14,9 @@ ghost use Rattle.graph.specs.Graph.{graphOf, verticesIn, firstEnd};
 ghost use Rattle.graph.specs.Index.{indexOf};
 ghost use Rattle.graph.specs.Passed.{Passed, Bounded};
 ghost use Rattle.dual.specs.Solve.{outputsOf, Solved};
-ghost use Rattle.tree.specs.Method.{level, value, Solvable};
-ghost use Rattle.tree.specs.Tree.{entries, naturals};
-ghost use Rattle.tree.specs.Lists.{leasts, mosts, Given, Between};
-ghost use Rattle.roots.specs.Roots.{Serves};
-ghost use Rattle.optimiser.specs.Optimiser.{Raised, Started, BoundsTabled, Serving};
+ghost use Rattle.method.specs.Method.{level, value, Solvable};
+ghost use Rattle.method.specs.Tree.{entries};
+ghost use Rattle.optimiser.specs.Optimiser.{Raised, Started, BoundsTabled};
 
 // Raises the price of edge e's row vertex to the edge's weight, if it is not as high already.
 fn raise_row(s: Shape, row: &[u32], column: &[u32], weight: &[i32], price: &mut [u32], e: usize)
@@ -29,7 +25,7 @@ fn raise_row(s: Shape, row: &[u32], column: &[u32], weight: &[i32], price: &mut 
     ensures { λ _. ⌜ Raised (firstEnd (graphOf s (now (row .entry)) (now (column .entry)) (now (weight .entry))) e) (value (graphOf s (now (row .entry)) (now (column .entry)) (now (weight .entry))) e - level) (entries (now (price .entry))) (entries (now (price .exit))) ⌝ }
 {
     let v = (row[e] - 1) as usize;
-    let k = tree::value_at(weight, e) - LEVEL;
+    let k = method::value_at(weight, e) - LEVEL;
     if price[v] < k {
         price[v] = k;
     }
@@ -63,58 +59,6 @@ fn table_of(bound: &[i32]) -> [u32; MOST_TABLE]
     table
 }
 
-// Serves the row vertices in their order: searches from each until it has its least, and its most or the price 0. It answers whether each search found a path.
-fn serve_rows(
-    s: Shape,
-    row: &[u32],
-    column: &[u32],
-    weight: &[i32],
-    arc: &[u32; MOST_ARCS],
-    table: &[u32; MOST_TABLE],
-    serving: Roots,
-    chosen: &mut [u8],
-    list: &mut [i32],
-    place: &mut [u32; MOST_EDGES],
-    price: &mut [u32; MOST_VERTICES],
-    used: &mut [u32; MOST_VERTICES],
-) -> bool
-    requires { ⌜ Given (graphOf s (now row) (now column) (now weight)) (now arc) (now table) (length (now list)) ⌝ }
-    requires { ⌜ Serves (s .rows) (mosts (now table)) (entries (serving .list)) (serving .count) ⌝ }
-    requires { ⌜ Between (graphOf s (now row) (now column) (now weight)) (leasts (now table)) (mosts (now table)) (now chosen) (entries (now price)) (entries (now used)) (naturals (now list)) (entries (now place)) ⌝ }
-    requires { ⌜ (length (now price) ≡ mostVertices) × (length (now used) ≡ mostVertices) × (s .edges ≤ length (now place)) ⌝ }
-    ensures { λ r. ⌜ Serving (graphOf s (now (row .entry)) (now (column .entry)) (now (weight .entry))) (leasts (now (table .entry))) (mosts (now (table .entry))) (now (chosen .entry)) (now (chosen .exit)) (entries (now (price .exit))) (entries (now (used .exit))) (naturals (now (list .exit))) (entries (now (place .exit))) r ⌝ }
-{
-    let count = serving.count;
-    let mut order = [0u32; MOST_LISTED];
-    let mut i = 0u32;
-    while i < count {
-        let root = serving.list[i as usize];
-        if roots::is_unserved(price, used, table, root as usize) {
-            order[0] = root;
-            let found = search::search(
-                s,
-                row,
-                column,
-                weight,
-                arc,
-                table,
-                chosen,
-                list,
-                place,
-                price,
-                used,
-                &mut order,
-            );
-            if !found {
-                return false;
-            }
-        } else {
-            i += 1;
-        }
-    }
-    true
-}
-
 // Chooses an optimal subgraph, where no edge is chosen yet, and sets the prices that show it. The chosen edges of the column vertices are listed in what
 // is lent for a list.
 pub fn optimise(
@@ -140,18 +84,18 @@ pub fn optimise(
     let mut arc = [0u32; MOST_ARCS];
     arcs::keep_rows(s, row, column, weight, index, &mut table, &mut arc);
     arcs::begin_lists(s, row, column, weight, index, &mut table);
-    let serving = roots::serving_order(s.rows, &table);
+    let turns = roots::serving_order(s.rows, &table);
     let mut price = first_prices(s, row, column, weight);
     let mut used = [0u32; MOST_VERTICES];
     let mut place = [0u32; MOST_EDGES];
-    let served = serve_rows(
+    let served = serving::serve_rows(
         s,
         row,
         column,
         weight,
         &arc,
         &table,
-        serving,
+        turns,
         chosen,
         list,
         &mut place,

@@ -8,3 +8,4 @@ pub mod Patterns
 pub mod Readers
 pub mod Prices
 pub mod Taken
+pub mod NumbersHeld

@@ -66,20 +66,20 @@ kind-read g (some kind) u e = go (sameKind kind (g .kind)) refl e
 -- ---- the size line
 
 -- The sizes are the graph's, and the number of edges is at most the graph's.
-pub record Counted (g : Graph) (o : Option (ℕ × ℕ × ℕ)) (d : Marked) : Type 0 where
+pub record MarksCounted (g : Graph) (o : Option (ℕ × ℕ × ℕ)) (d : Marked) : Type 0 where
   pub count : ℕ
   pub read : o ≡ some (g .rows, g .columns, count)
   pub range : sizesInRange (g .kind) (g .rows) (g .columns) count ≡ true
   pub few : count ≤ g .edges
   pub is : marksSoFar count 0 (replicate (g .edges) 0) ≡ d
 
-pub count-read : (g : Graph) (o : Option (ℕ × ℕ × ℕ)) (d : Marked) → subgraphSizes g o ≡ goes d → Counted g o d
+pub count-read : (g : Graph) (o : Option (ℕ × ℕ × ℕ)) (d : Marked) → subgraphSizes g o ≡ goes d → MarksCounted g o d
 count-read g none d e = zero-one (cc)
 count-read g (some (r, c, n)) d e =
     go (sizesInRange (g .kind) r c n) (eqb r (g .rows) && eqb c (g .columns) && leb n (g .edges)) refl refl e
   where
     go : (a b : Bool) → sizesInRange (g .kind) r c n ≡ a → eqb r (g .rows) && eqb c (g .columns) && leb n (g .edges) ≡ b
-        → cond a (cond b (goes (marksSoFar n 0 (replicate (g .edges) 0))) (stops Disagreement)) (stops Sizes) ≡ goes d → Counted g (some (r, c, n)) d
+        → cond a (cond b (goes (marksSoFar n 0 (replicate (g .edges) 0))) (stops Disagreement)) (stops Sizes) ≡ goes d → MarksCounted g (some (r, c, n)) d
     go true true p q e =
         let w = both (eqb r (g .rows) && eqb c (g .columns)) (leb n (g .edges)) q in
         let v = both (eqb r (g .rows)) (eqb c (g .columns)) (w .0) in

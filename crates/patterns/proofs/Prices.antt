@@ -33,17 +33,17 @@ rangedLayout rules ranges what count = record {
 }
 
 -- A line that is taken adds a number in range.
-record Added (ranges : Rules) (what : Numbers) (zs : List ℤ) (o : Option ℤ) (d : List ℤ) : Type 0 where
+record PriceAdded (ranges : Rules) (what : Numbers) (zs : List ℤ) (o : Option ℤ) (d : List ℤ) : Type 0 where
   number : ℤ
   is : o ≡ some number
   within : inRange ranges what number ≡ true
   last : d ≡ zs ++ (number ∷ [])
 
-added : (ranges : Rules) (what : Numbers) (zs : List ℤ) (o : Option ℤ) (d : List ℤ) → numberValue ranges what zs o ≡ goes d → Added ranges what zs o d
+added : (ranges : Rules) (what : Numbers) (zs : List ℤ) (o : Option ℤ) (d : List ℤ) → numberValue ranges what zs o ≡ goes d → PriceAdded ranges what zs o d
 added ranges what zs none d h = zero-one (cc)
 added ranges what zs (some z) d h = go (inRange ranges what z) refl h
   where
-    go : (b : Bool) → inRange ranges what z ≡ b → cond b (goes (zs ++ (z ∷ []))) (stops (outside what)) ≡ goes d → Added ranges what zs (some z) d
+    go : (b : Bool) → inRange ranges what z ≡ b → cond b (goes (zs ++ (z ∷ []))) (stops (outside what)) ≡ goes d → PriceAdded ranges what zs (some z) d
     go true is h = record { number = z; is = refl; within = is; last = cc }
     go false is h = zero-one (cc)
 

@@ -26,7 +26,7 @@ use Rattle.layout.specs.SubgraphText.{subgraphKind, Marked, edgeWith, subgraphL
 use Rattle.readback.proofs.ReadBack.{marksSoFar}
 use Rattle.readback.proofs.Trace.{Reads, done, by-header, skipped, by-size, blank-line, by-line, reads-yield, yield-reads}
 use Rattle.patterns.proofs.Edges.{edge-added, length-snoc}
-use Rattle.patterns.proofs.Marks.{kind-header, kind-read, Counted, count-read, Named, mark-read}
+use Rattle.patterns.proofs.Marks.{kind-header, kind-read, MarksCounted, count-read, Named, mark-read}
 
 module _ (g : Graph) where
   -- The graph of these edges with the sizes of g, of n edges.
@@ -140,13 +140,13 @@ module _ (rules : Rules) (g : Graph) where
 
   -- ---- the size line and the header
 
-  sizes-agree : {d : Marked} (o : Option (ℕ × ℕ × ℕ)) → Counted g o d → graphSizes (g .kind) o ≡ goes (chosenOf g (d .count) [] [] [])
+  sizes-agree : {d : Marked} (o : Option (ℕ × ℕ × ℕ)) → MarksCounted g o d → graphSizes (g .kind) o ≡ goes (chosenOf g (d .count) [] [] [])
   sizes-agree o s =
       ap (graphSizes (g .kind)) (s .read)
       ∙ ap (λ (t : Bool). cond t (goes (chosenOf g (s .count) [] [] [])) (stops Sizes)) (s .range)
       ∙ ap (λ (x : Marked). goes (chosenOf g (x .count) [] [] [])) (s .is)
 
-  none-alike : {d : Marked} (o : Option (ℕ × ℕ × ℕ)) → Counted g o d → Alike g d [] []
+  none-alike : {d : Marked} (o : Option (ℕ × ℕ × ℕ)) → MarksCounted g o d → Alike g d [] []
   none-alike o s =
       let A : Alike g (marksSoFar (s .count) 0 (replicate (g .edges) 0)) [] [] =
       record { came = refl; columns = refl; long = length-replicate (g .edges) 0; marked = λ j l. absurd (omega arith) } in

@@ -7,8 +7,8 @@ use Rattle.graph.specs.Limits.{mostVertices}
 use Rattle.graph.specs.Graph.{Graph, firstEnd, secondEnd}
 use Rattle.graph.specs.Subgraph.{markAt}
 use Rattle.graph.specs.Passed.{Passed}
-use Rattle.tree.specs.Method.{topPrice, topValue, value, cost, Good}
-use Rattle.tree.proofs.Solvable.{value-in, marks-hold}
+use Rattle.method.specs.Method.{topPrice, topValue, value, cost, Good}
+use Rattle.method.proofs.Solvable.{value-in, marks-hold}
 use Rattle.pricing.specs.Pricing.{Payable, edgePriceOf}
 
 -- A number times a mark.

@@ -8,7 +8,7 @@ use Rattle.graph.specs.Graph.{Graph, vertices}
 use Rattle.graph.specs.Subgraph.{markAt}
 use Rattle.graph.specs.Passed.{Passed, MarksHold}
 use Rattle.dual.specs.Gap.{halfPoints}
-use Rattle.tree.specs.Method.{level, topPrice, value, cost}
+use Rattle.method.specs.Method.{level, topPrice, value, cost}
 
 -- The prices of edges can be told: where an edge is chosen, its weight is not below its ends' prices.
 pub record Payable (g : Graph) (x : List ℕ) (price : ℕ → ℕ) : Type 0 where

@@ -1,7 +1,7 @@
 // The prices that are handed out, in half points.
 use graph::MOST_VERTICES;
 use graph::Shape;
-use tree::LEVEL;
+use method::LEVEL;
 ghost use Prim.Native.Nat.{ℕ, _-_, _≤_, _<_};
 ghost use mathlib.Core.Path.{_≡_};
 ghost use lib.IntN.{pos};
@@ -9,8 +9,8 @@ ghost use lib.ListN.{length, getD};
 ghost use Rattle.graph.specs.Limits.{mostVertices};
 ghost use Rattle.graph.specs.Graph.{graphOf};
 ghost use Rattle.dual.specs.Gap.{halfPoints};
-ghost use Rattle.tree.specs.Method.{level, topPrice, topValue};
-ghost use Rattle.tree.specs.Tree.{entries};
+ghost use Rattle.method.specs.Method.{level, topPrice, topValue};
+ghost use Rattle.method.specs.Tree.{entries};
 ghost use Rattle.pricing.specs.Pricing.{Payable, edgePriceOf};
 
 // The price of edge e in points: where it is chosen, what its weight is above its ends' prices.
@@ -30,11 +30,11 @@ fn edge_price_of(
     if chosen[e] == 0 {
         return 0;
     }
-    let ends = tree::ends_at(s, row, column, e);
+    let ends = method::ends_at(s, row, column, e);
     let first = ends.first;
     let second = ends.second;
     let cost = price[first] + price[second];
-    tree::value_at(weight, e) - cost
+    method::value_at(weight, e) - cost
 }
 
 // The prices of all edges, in half points.
@@ -54,7 +54,7 @@ pub fn edge_prices(
     let mut e = 0;
     while e < edge_price.len() {
         let k = edge_price_of(s, row, column, weight, chosen, price, e);
-        tree::put_natural(edge_price, e, 2 * k);
+        integers::put_natural(edge_price, e, 2 * k);
         e += 1;
     }
 }
@@ -68,7 +68,7 @@ pub fn vertex_prices(price: &[u32; MOST_VERTICES], vertex_price: &mut [i32])
     let mut v = 0;
     while v < vertex_price.len() {
         let k = price[v] - LEVEL;
-        tree::put_natural(vertex_price, v, 2 * k);
+        integers::put_natural(vertex_price, v, 2 * k);
         v += 1;
     }
 }

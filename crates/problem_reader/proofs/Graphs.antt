@@ -11,11 +11,16 @@ use Rattle.graph.specs.Graph.{Graph, shapeOf, shapeInRange}
 use Rattle.graph.specs.Tests.{graphLengths}
 use Rattle.graph.specs.Passed.{SizesHold}
 use Rattle.graph.proofs.Ranges.{sizes-hold}
+use Rattle.layout.specs.declared.Rules.the-variants.{New}
+use Rattle.layout.specs.declared.Field.the-variants as Field
+use Rattle.layout.specs.GraphText.{readGraph}
 use Rattle.layout.specs.declared.GraphAnswer.{GraphAnswer}
 use Rattle.layout.specs.declared.GraphAnswer.the-variants as GraphAnswer
 use Rattle.layout.specs.Answers.{graphSays}
-use Rattle.problem_reader.proofs.Kept.{graph-yielded}
-use Rattle.problem_reader.proofs.Lent.{storedGraph, stored-is, edgesLent, weightsLent, edges-lent, weights-lent}
+use Rattle.report.specs.declared.Source.the-variants as Source
+use Rattle.report.specs.Programs.{cameFrom}
+use Rattle.problem_reader.proofs.Kept.{graph-whole, graph-yielded}
+use Rattle.problem_reader.proofs.Lent.{storedGraph, stored-is, edgesLent, weightsLent, edges-lent, weights-lent, lengths-lent}
 
 -- They have room for the graph that is yielded, and hold it.
 pub record GraphStored (o : Outcome Graph) (s : Shape) (row column : List ℕ) (weight : List ℤ) : Type 0 where
@@ -47,3 +52,17 @@ module _ {o : Outcome Graph} (whole : (g : Graph) → o ≡ yields g → (graphL
         weightLong = weight-long ∙ weights-lent;
         same = e ∙ ap yields (sym stored);
       }
+
+-- ---- a sheet that is read alone
+
+-- What its reader yields, by the arrays that it is lent.
+abbrev pub lentGraph : List ℕ → Outcome Graph
+lentGraph sheet = readGraph edgesLent edgesLent weightsLent sheet
+
+module _ (sheet : List ℕ) where
+  pub sheet-whole : (g : Graph) → lentGraph sheet ≡ yields g → (graphLengths g ≡ true) × (shapeInRange (shapeOf g) ≡ true)
+  sheet-whole = graph-whole New Field.Integer edgesLent edgesLent weightsLent sheet
+
+  -- How far the program comes with it.
+  pub sheet-came : {o : Outcome Graph} → lentGraph sheet ≡ o → cameFrom Source.Sheet o ≡ cameFrom Source.Sheet (readGraph 1024 1024 1024 sheet)
+  sheet-came is = ap (cameFrom Source.Sheet) (sym is ∙ lengths-lent (λ r c w b. readGraph r c w sheet))

@@ -26,7 +26,7 @@ use Rattle.layout.specs.NumberText.{readNumbers}
 use Rattle.lent.proofs.Lengths.{lengths-hold}
 use Rattle.report.specs.declared.Source.{Source}
 use Rattle.report.specs.declared.Source.the-variants as Source
-use Rattle.report.specs.Programs.{Run, has, ends, runReported, runOutput, cameFrom, andThen, Problem, readBounds, readProblem, problemOf}
+use Rattle.report.specs.Programs.{Run, has, ends, runReported, runOutput, cameFrom, andThen, Problem, readBounds, readProblem, problemIn}
 use Rattle.problem_reader.specs.declared.ProblemAnswer.{ProblemAnswer}
 use Rattle.problem_reader.specs.declared.ProblemAnswer.the-variants as ProblemAnswer
 use Rattle.problem_reader.specs.Problem.{problemShape, problemSays, ProblemLeft}
@@ -83,7 +83,13 @@ pub record Stored (sheet limits : List ℕ) (s : Shape) (row column : List ℕ) 
   pub columnLong : length column ≡ 1024
   pub weightLong : length weight ≡ 1024
   pub boundLong : length bound ≡ 128
-  pub same : has (record { graph = storedGraph s row column weight; bound = take (verticesIn s) bound }) ≡ problemOf sheet limits
+  pub same : has (record { graph = storedGraph s row column weight; bound = take (verticesIn s) bound }) ≡ problemIn sheet limits
+
+-- It is the problem of the arrays' parts that are lent of them, where there are n vertices.
+pub stored-problem : {sheet limits : List ℕ} {s : Shape} {row column : List ℕ} {weight bound : List ℤ} {n : ℕ} → Stored sheet limits s row column weight bound
+    → n ≡ verticesIn s → has (record { graph = storedGraph s row column weight; bound = take n bound }) ≡ problemIn sheet limits
+stored-problem {s = s} {row} {column} {weight} {bound} S all =
+    ap (λ k. has (record { graph = storedGraph s row column weight; bound = take k bound })) all ∙ S .same
 
 -- What was read, where s is told of it.
 record ShapeTold (W : Run Problem) (s : Shape) : Type 0 where
@@ -130,12 +136,12 @@ abbrev lentProblem : List ℕ → List ℕ → Run Problem
 lentProblem sheet limits = readProblem edgesLent edgesLent weightsLent boundsLent sheet limits
 
 module _ (sheet limits : List ℕ) where
-  lent-is : lentProblem sheet limits ≡ problemOf sheet limits
+  lent-is : lentProblem sheet limits ≡ problemIn sheet limits
   lent-is = lengths-lent (λ r c w b. readProblem r c w b sheet limits)
 
   -- The reader of a problem has answered a.
   module _ {a : ProblemAnswer} (says : problemSays a ≡ runReported problemShape (lentProblem sheet limits)) where
-    pub problem-ended : {source : Source} {f : Refusal} → a ≡ ProblemAnswer.Refused source f → ends source (f .fault) (f .place) ≡ problemOf sheet limits
+    pub problem-ended : {source : Source} {f : Refusal} → a ≡ ProblemAnswer.Refused source f → ends source (f .fault) (f .place) ≡ problemIn sheet limits
     problem-ended {source} {f} is =
         told-ends (lentProblem sheet limits) source (f .fault) (f .place) (sym (ap problemSays is) ∙ says) ∙ lent-is
 

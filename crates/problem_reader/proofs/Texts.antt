@@ -1,10 +1,9 @@
 -- What a program leaves of a buffer that is to have 32,768 bytes: in the end, and where it has lent it to a call which yields a text.
 use Prim.Native.Nat.{ℕ, _≤_}
 use mathlib.Core.Path.{_≡_, sym, ap, _∙_, subst}
-use mathlib.Core.Logic.{_≢_}
 use mathlib.Core.List.{List}
 use native.Mathlib.Omega.{arith}
-use lib.ListN.{length, replicate}
+use lib.ListN.{length}
 use Rattle.graph.specs.declared.Refusal.{Refusal}
 use Rattle.graph.specs.Limits.{longestText}
 use Rattle.graph.specs.Refusal.{Outcome, yields, refuses, told, reported, filled, output}
@@ -16,26 +15,22 @@ use Rattle.writer.specs.Written.{Written}
 use Rattle.report.specs.declared.Source.the-variants as Source
 use Rattle.report.specs.Report.{refusedLine, lineRoom, composedBytes, composedLength, Composed}
 use Rattle.report.specs.Programs.{cameFrom, written, wholeTextRoom}
-use Rattle.report.proofs.Parts.{composed-inside, exact-none, exact-text, exact-line}
+use Rattle.report.proofs.Parts.{exact-text, exact-line}
+use Rattle.report.proofs.Runs.{answer-inside}
 use Rattle.problem_reader.proofs.Kept.{reported-yields, reported-refuses}
 
 -- ---- what is left in the end, where the program writes `text`
 
-module _ (text : List ℕ) {before after : List ℕ} where
-  -- The buffer has another length.
-  pub nothing-written : length before ≢ longestText → after ≡ replicate (length before) 0 → (0 ≤ length after) × Composed wholeTextRoom text before after 0
-  nothing-written wrong cleared = (omega arith, exact-none longestText text wrong cleared)
+module _ (text : List ℕ) {before after : List ℕ} {r : ℕ} {xs : List ℕ} (is : text ≡ xs) (long : length before ≡ longestText) where
+  in-the-end : Composed wholeTextRoom xs before after r → (r ≤ length after) × Composed wholeTextRoom text before after r
+  in-the-end C = answer-inside (subst (λ (t : List ℕ). Composed wholeTextRoom t before after r) (sym is) C)
 
-  module _ {r : ℕ} {xs : List ℕ} (is : text ≡ xs) where
-    pub text-written : Composed wholeTextRoom xs before after r → (r ≤ length after) × Composed wholeTextRoom text before after r
-    text-written C = let D = subst (λ (t : List ℕ). Composed wholeTextRoom t before after r) (sym is) C in (composed-inside D, D)
+  pub line-written : Composed lineRoom xs before after r → (r ≤ length after) × Composed wholeTextRoom text before after r
+  line-written C = in-the-end (exact-line longestText long (omega arith) C)
 
-    pub line-written : length before ≡ longestText → Composed lineRoom xs before after r → (r ≤ length after) × Composed wholeTextRoom text before after r
-    line-written long C = text-written (exact-line longestText long (omega arith) C)
-
-    -- The text fills it.
-    pub all-written : length before ≡ longestText → Written longestText xs after r → (r ≤ length after) × Composed wholeTextRoom text before after r
-    all-written long W = text-written (exact-text longestText long (W .text ∙ ap (λ n. filled n 0 xs) (sym long)) (W .size))
+  -- The text fills it.
+  pub all-written : Written longestText xs after r → (r ≤ length after) × Composed wholeTextRoom text before after r
+  all-written W = in-the-end (exact-text longestText long (W .text ∙ ap (λ n. filled n 0 xs) (sym long)) (W .size))
 
 -- ---- the buffer was lent to a call
 

@@ -29,7 +29,7 @@ fn read_bounds(limits: &[u8], n: u64, bound: &mut [i32]) -> NumbersAnswer
     ensures says { λ r. ⌜ numbersSay r ≡ told (reported (λ zs. tt) (readBounds (length (now (bound .entry))) n (now (limits .entry)))) ⌝ }
     ensures bounds { λ _. ⌜ now (bound .exit) ≡ output (length (now (bound .entry))) (pos 0) (λ zs. zs) (readBounds (length (now (bound .entry))) n (now (limits .entry))) ⌝ }
 {
-    lent::clear_integers(bound);
+    filling::clear_integers(bound);
     if bound.len() != MOST_VERTICES {
         return NumbersAnswer::Refused(Refusal {
             fault: Fault::LentLength,
@@ -54,17 +54,17 @@ pub fn read_problem(
 {
     match graph_reader::read_graph(sheet, row, column, weight) {
         GraphAnswer::Refused(refusal) => {
-            lent::clear_integers(bound);
+            filling::clear_integers(bound);
             ProblemAnswer::Refused {
                 source: Source::Sheet,
                 refusal,
             }
         }
-        GraphAnswer::Graph(s) => match read_bounds(limits, checks::vertex_count(s), bound) {
+        GraphAnswer::Graph(s) => match read_bounds(limits, graph::vertex_count(s), bound) {
             NumbersAnswer::Refused(refusal) => {
-                lent::clear_naturals(row);
-                lent::clear_naturals(column);
-                lent::clear_integers(weight);
+                filling::clear_naturals(row);
+                filling::clear_naturals(column);
+                filling::clear_integers(weight);
                 ProblemAnswer::Refused {
                     source: Source::Limits,
                     refusal,

@@ -1,36 +1,33 @@
 -- The promises of request U7 are kept.
 use Prim.Native.Nat.{ℕ, _-_}
-use mathlib.Core.Path.{_≡_, refl, sym, ap, ap₂, _∙_, subst}
+use mathlib.Core.Path.{_≡_, sym, ap, ap₂, _∙_, subst}
 use mathlib.Core.List.{List, [], _∷_, _++_}
-use borrow.Author.Tests.{eq-eqb}
 use lib.IntN.{ℤ, pos}
-use lib.ListN.{length, replicate}
-use Rattle.graph.specs.Limits.{mostVertices, mostEdges, longestText, workspaceNumbers}
+use lib.ListN.{replicate}
+use Rattle.graph.specs.Limits.{mostVertices, mostEdges, longestText}
 use Rattle.graph.specs.Refusal.{Outcome, yields, output}
 use Rattle.graph.specs.Graph.{Graph, vertices}
-use Rattle.graph.specs.Tests.{graphTests, boundTest, kindTest, isBipartite}
-use Rattle.graph.specs.Index.{indexNumbers, indexTest, buildIndex}
-use Rattle.graph.specs.Passed.{Passed}
-use Rattle.graph.proofs.Passing.{pass, passes-join}
-use Rattle.graph.proofs.Passed.{passed-lengths, passed-tests}
-use Rattle.graph.proofs.Index.{given-index, index-built}
-use Rattle.graph.proofs.Ranges.{_also_}
+use Rattle.graph.specs.Tests.{boundTest}
+use Rattle.graph.specs.Passed.{Passed, Bounded}
+use Rattle.graph.proofs.Passing.{pass}
+use Rattle.graph.proofs.Passed.{bounds-passed}
 use Rattle.layout.specs.GraphText.{graphText}
 use Rattle.layout.specs.TidyText.{tidyText}
 use Rattle.layout.specs.AssignmentText.{assignmentText, writeAssignment, unitBounds}
-use Rattle.dual.specs.Solve.{solverTests, solve}
 use Rattle.readback.proofs.GraphBack.{graph-back}
 use Rattle.patterns.proofs.Texts.{passed-passing}
 use Rattle.assignments.proofs.Written.{unit-long, unit-range, all-one, yields-written, unit-writes}
 use Rattle.assignments.proofs.Back.{assignment-back, written-back}
 use Rattle.assignments.proofs.Passes.{assignment-passes}
 use Rattle.report.specs.declared.Source.the-variants as Source
-use Rattle.report.specs.Programs.{Run, has, Problem, cameFrom, andThen, written, readBounds, readProblem, problemOf, lentFor}
+use Rattle.report.specs.Programs.{Run, has, Problem, cameFrom, written, andThen, problemIn}
 use Rattle.report.specs.Programs.{toDimacsRun, toDimacsOutput, fromDimacsOutput}
 use Rattle.promises.specs.Promises.{GoesOutAs, ComesInAs, ThereAndBack, OnlyUnitBounds, BoundsComeInAsOne, ReadAssignmentsPass}
 use Rattle.promises.specs.Promises.{ReadAs, UnitSheet, SheetsThereAndBack}
+use Rattle.promises.proofs.Solver.{lent-right, solver-takes}
 use Rattle.promises.proofs.Kept.{passing-passed}
 use Rattle.promises.proofs.Tidied.{sheet-passed, passed-tidied, yields-once}
+use Rattle.promises.proofs.Programs.{read-problem}
 
 -- ---- out and back
 
@@ -73,32 +70,16 @@ bounds-come-in-as-one text g e = (
   ap (output mostVertices (pos 0) unitBounds) e ∙ ap (λ (k : ℕ). unitBounds g ++ replicate (mostVertices - k) (pos 0)) (unit-long g),
 )
 
--- The solver takes a graph that comes in, with the index that is built of it.
-solved-again : (text : List ℕ) (g : Graph) → ComesInAs text g → (n : ℕ) (index : List ℕ) → buildIndex g n ≡ yields index
-    → solve g (unitBounds g) index (lentFor g) ≡ yields tt
-unfolding solve
-solved-again text g e n index built =
-    let P = assignment-passes mostEdges mostEdges mostEdges mostVertices text g e in
-    let I = index-built g n index built in
-    pass (solverTests g (unitBounds g) index (lentFor g)) (
-      λ k l.
-          passed-lengths (P .0)
-          also eq-eqb (length (unitBounds g)) (vertices g) (unit-long g)
-          also eq-eqb (length index) (indexNumbers g) (I .long ∙ I .lent)
-          also eq-eqb (g .edges) (g .edges) refl
-          also eq-eqb (vertices g) (vertices g) refl
-          also eq-eqb (g .edges) (g .edges) refl
-          also eq-eqb workspaceNumbers workspaceNumbers refl,
-      passes-join (graphTests g) (boundTest g (unitBounds g) ∷ kindTest g ∷ indexTest g index ∷ []) (passed-tests (P .0))
-          (unit-range g .0, ((λ k l. ap isBipartite (P .1)), given-index g index (I .is))),
-    )
-    (yields tt)
+came-bounded : (g : Graph) → Bounded (vertices g) (unitBounds g)
+came-bounded g = bounds-passed g (unitBounds g) (unit-long g) (unit-range g)
 
 pub read-assignments-pass : ReadAssignmentsPass
 read-assignments-pass = record {
   accepted = λ text g e.
       record { graph = passed-passing (came-passed text g e); boundLong = unit-long g; bounds = pass (boundTest g (unitBounds g) ∷ []) (unit-range g) (yields tt) };
-  solved = solved-again;
+  solved = λ text g e n index built.
+      let P = assignment-passes mostEdges mostEdges mostEdges mostVertices text g e in
+      solver-takes (P .0) (came-bounded g) (lent-right g) (P .1) n index built;
   tidied = λ text g e. (tidyText g, passed-tidied (came-passed text g e));
   sentOut = λ text g e.
       let P = assignment-passes mostEdges mostEdges mostEdges mostVertices text g e in (assignmentText g, unit-writes (P .0) (P .1));
@@ -111,20 +92,13 @@ module _ (sheet limits : List ℕ) (g : Graph) (U : UnitSheet sheet limits g) wh
   passed = sheet-passed sheet g (U .read)
 
   -- What both programs read: the sheet with its limits.
-  abbrev withBound : List ℤ → Run Problem
-  withBound bound = has (record { graph = g; bound = bound })
-
-  problem-read : problemOf sheet limits ≡ withBound (unitBounds g)
-  unfolding readProblem
-  problem-read =
-      ap (λ (o : Outcome Graph). andThen (cameFrom Source.Sheet o)
-      (λ h. andThen (cameFrom Source.Limits (readBounds mostVertices (vertices h) limits)) (λ bound. has (record { graph = h; bound = bound })))) (U .read)
-      ∙ ap (λ (o : Outcome (List ℤ)). andThen (cameFrom Source.Limits o) withBound) (U .ones)
+  unit-read : problemIn sheet limits ≡ has (record { graph = g; bound = unitBounds g })
+  unit-read = read-problem sheet limits (record { graph = g; bound = unitBounds g }) (record { graph = U .read; bounds = U .ones })
 
   sheet-out : toDimacsOutput sheet limits ≡ assignmentText g
   unfolding toDimacsOutput
   sheet-out =
-      ap (λ (r : Run Problem). written (λ text. text) (andThen r toDimacsRun)) problem-read
+      ap (λ (r : Run Problem). written (λ text. text) (andThen r toDimacsRun)) unit-read
       ∙ ap (λ (o : Outcome (List ℕ)). written (λ text. text) (cameFrom Source.Input o)) (unit-writes passed (U .twoSided))
 
   sheet-in : fromDimacsOutput (assignmentText g) ≡ graphText g

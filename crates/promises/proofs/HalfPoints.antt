@@ -23,7 +23,7 @@ use Rattle.dual.specs.Solve.{SolverPrice}
 use Rattle.duality.proofs.HalfPoints.{Half, half-self, half-add, half-diff, half-times, times-half, half-sum}
 use Rattle.duality.proofs.Passed.{measure-passed}
 use Rattle.duality.proofs.Measured.{measured, certified}
-use Rattle.promises.specs.Promises.{CountedInHalfPoints, EvenPrice, SolverPricesEven, TwiceWhatIsLacking, doubled, StoredPricesDoubled}
+use Rattle.promises.specs.Promises.{CountedInHalfPoints, EvenPrice, SolverPricesEven, TwiceWhatIsLacking, inHalfPoints, StoredPricesDoubled}
 
 pub counted-in-half-points : CountedInHalfPoints
 counted-in-half-points = record {
@@ -88,14 +88,14 @@ half-order a b = go (leZ (halfPoints a) (halfPoints b)) refl (leZ a b) refl
         absurd (omega (order, l, m, up-times 2 a, up-times 2 b))
 
 module _ (g : Graph) (P : Prices) where
-  cover-doubled : (e : ℕ) → Half (coverOf g (doubled P) e) (coverOf g P e)
+  cover-doubled : (e : ℕ) → Half (coverOf g (inHalfPoints P) e) (coverOf g P e)
   cover-doubled e =
       half-add
       (half-add (half-add (price-doubled (P .vertex) (firstEnd g e)) (price-doubled (P .vertex) (secondEnd g e))) (price-doubled (P .edge) e))
       (half-sum (P .sets) (λ s. half-times (pos (one (covers g (P .marks) s e))) (price-doubled (P .set) s)))
 
   module _ (bound : List ℤ) where
-    total-doubled : Half (totalOf g bound (doubled P)) (totalOf g bound P)
+    total-doubled : Half (totalOf g bound (inHalfPoints P)) (totalOf g bound P)
     total-doubled =
         half-add
         (half-add
@@ -104,21 +104,21 @@ module _ (g : Graph) (P : Prices) where
         (half-sum (g .edges) (price-doubled (P .edge)))
 
     module _ (x : List ℕ) where
-      gap-doubled : Half (gapOf g bound x (doubled P)) (totalOf g bound P -ℤ weightOf g x)
+      gap-doubled : Half (gapOf g bound x (inHalfPoints P)) (totalOf g bound P -ℤ weightOf g x)
       gap-doubled = half-diff total-doubled (half-self (weightOf g x))
 
-      vertices-doubled : Half (vertexSlack g bound x (doubled P)) (vertexSlack g bound x P)
+      vertices-doubled : Half (vertexSlack g bound x (inHalfPoints P)) (vertexSlack g bound x P)
       vertices-doubled = half-sum (vertices g) (λ v. times-half (boundAt bound v -ℤ pos (degree g x v)) (price-doubled (P .vertex) v))
 
-      sets-doubled : Half (setSlack g bound x (doubled P)) (setSlack g bound x P)
+      sets-doubled : Half (setSlack g bound x (inHalfPoints P)) (setSlack g bound x P)
       sets-doubled =
           half-sum (P .sets) (λ s. times-half (pos (capacity g bound (P .marks) s) -ℤ pos (chosenCovered g x (P .marks) s)) (price-doubled (P .set) s))
 
   module _ (x : List ℕ) where
-    edges-doubled : Half (edgeSlack g x (doubled P)) (edgeSlack g x P)
+    edges-doubled : Half (edgeSlack g x (inHalfPoints P)) (edgeSlack g x P)
     edges-doubled = half-sum (g .edges) (λ e. half-times (pos (1 - markAt x e)) (price-doubled (P .edge) e))
 
-    covers-doubled : Half (coverSlack g x (doubled P)) (sumℤ (g .edges) (λ e. pos (markAt x e) *ℤ (coverOf g P e -ℤ weightAt g e)))
+    covers-doubled : Half (coverSlack g x (inHalfPoints P)) (sumℤ (g .edges) (λ e. pos (markAt x e) *ℤ (coverOf g P e -ℤ weightAt g e)))
     covers-doubled = half-sum (g .edges) (λ e. half-times (pos (markAt x e)) (half-diff (cover-doubled e) (half-self (weightAt g e))))
 
 pub stored-prices-doubled : StoredPricesDoubled

@@ -1,11 +1,11 @@
 -- The promises are kept.
-use Prim.Native.Nat.{ℕ, _*_, _≤_, _<_}
+use Prim.Native.Nat.{ℕ, _*_, _<_}
 use mathlib.Core.Path.{_≡_, refl, sym, ap, ap₂, _∙_, subst}
 use mathlib.Core.Logic.{_⊎_, inl, inr, _↔_}
 use mathlib.Core.Bool.{true, _&&_}
 use mathlib.Core.List.{List, [], _∷_}
 use native.Mathlib.Omega.{arith}
-use lib.Dec.{eqb, lit≤}
+use lib.Dec.{eqb}
 use lib.IntN.{ℤ, pos, _-ℤ_}
 use lib.ListN.{length, replicate, length-replicate, getD-replicate}
 use lib.Signed.{_≤ℤ_}
@@ -26,6 +26,7 @@ use Rattle.graph.specs.Passed.{Passed, Bounded}
 use Rattle.graph.proofs.Passing.{zero-one, passes, pass, passes-join, goOn, passing-on, once-passes, once-yields}
 use Rattle.graph.proofs.Passed.{graph-passed, bounds-passed}
 use Rattle.graph.proofs.Index.{given-index, index-built, index-tested}
+use Rattle.graph.proofs.Told.{told-same}
 use Rattle.graph.proofs.Ranges.{_also_}
 use Rattle.layout.specs.declared.Rules.the-variants.{New}
 use Rattle.layout.specs.declared.Field.the-variants as Field
@@ -43,69 +44,65 @@ use Rattle.cases.proofs.Trying.{some-optimal}
 use Rattle.duality.proofs.Passed.{Priced, measure-takes}
 use Rattle.duality.proofs.Measured.{measured, certified}
 use Rattle.readback.proofs.ReadBack.{read-back, written-apart}
-use Rattle.promises.specs.Promises.{Listed, Refuses, ZeroAfterRefusal, Passing, Refusing, ReadAsDefined, ReadsBack, LargestMerit, RefusedJustWhereListed}
-use Rattle.promises.specs.Promises.{SolverCertifies, Accepts, Covers, MeasuredMeans, OptimumExists, ListsEdges, IndexListsEdges, OneIndex}
-use Rattle.promises.proofs.Listing.{lists-edges}
+use Rattle.promises.specs.Promises.{occurs, refusalNumbers, Listed, Refuses, ZeroOnRefusal, ZeroAfterRefusal, Passing, Refusing, ReadAsDefined, ReadsBack}
+use Rattle.promises.specs.Promises.{LargestMerit, RefusedJustWhereListed, SolverCertifies, Accepts, Covers, MeasuredMeans, OptimumExists}
+use Rattle.promises.specs.Promises.{LaidOut, IndexLaidOut, ListsEdges, IndexListsEdges, OneIndex}
+use Rattle.promises.proofs.Listing.{laid-out, lists-edges}
+use Rattle.promises.proofs.Solver.{tester-refuses, taken-built, solver-refuses-other}
 
 -- ---- Demand 1
 
-least-number : (f : Fault) → 1 ≤ numberOf f
-least-number TextLength = lit≤ tt
-least-number Header = lit≤ tt
-least-number SizeLine = lit≤ tt
-least-number Sizes = lit≤ tt
-least-number LaterLine = lit≤ tt
-least-number Ends = lit≤ tt
-least-number Weight = lit≤ tt
-least-number SameEnds = lit≤ tt
-least-number LentLength = lit≤ tt
-least-number Bound = lit≤ tt
-least-number Mark = lit≤ tt
-least-number Degree = lit≤ tt
-least-number Price = lit≤ tt
-least-number OddSet = lit≤ tt
-least-number Uncovered = lit≤ tt
-least-number NotBipartite = lit≤ tt
-least-number Disagreement = lit≤ tt
-least-number WrongIndex = lit≤ tt
-least-number BoundNotOne = lit≤ tt
-least-number AssignmentLine = lit≤ tt
-least-number Sources = lit≤ tt
+in-table : (f : Fault) → occurs (numberOf f) refusalNumbers ≡ 1
+in-table TextLength = refl
+in-table Header = refl
+in-table SizeLine = refl
+in-table Sizes = refl
+in-table LaterLine = refl
+in-table Ends = refl
+in-table Weight = refl
+in-table SameEnds = refl
+in-table LentLength = refl
+in-table Bound = refl
+in-table Mark = refl
+in-table Degree = refl
+in-table Price = refl
+in-table OddSet = refl
+in-table Uncovered = refl
+in-table NotBipartite = refl
+in-table Disagreement = refl
+in-table WrongIndex = refl
+in-table BoundNotOne = refl
+in-table AssignmentLine = refl
+in-table Sources = refl
 
-most-number : (f : Fault) → numberOf f ≤ 21
-most-number TextLength = lit≤ tt
-most-number Header = lit≤ tt
-most-number SizeLine = lit≤ tt
-most-number Sizes = lit≤ tt
-most-number LaterLine = lit≤ tt
-most-number Ends = lit≤ tt
-most-number Weight = lit≤ tt
-most-number SameEnds = lit≤ tt
-most-number LentLength = lit≤ tt
-most-number Bound = lit≤ tt
-most-number Mark = lit≤ tt
-most-number Degree = lit≤ tt
-most-number Price = lit≤ tt
-most-number OddSet = lit≤ tt
-most-number Uncovered = lit≤ tt
-most-number NotBipartite = lit≤ tt
-most-number Disagreement = lit≤ tt
-most-number WrongIndex = lit≤ tt
-most-number BoundNotOne = lit≤ tt
-most-number AssignmentLine = lit≤ tt
-most-number Sources = lit≤ tt
+same-fault : {f h : Fault} → _≡_ {A = Outcome (Unit {0})} (refuses f 0) (refuses h 0) → f ≡ h
+same-fault e = cc
 
-pub listed : Listed
-listed = record { least = least-number; most = most-number }
+pub numbers-listed : Listed
+numbers-listed = record {
+  inTable = in-table;
+  faults =
+      TextLength ∷ Header ∷ SizeLine ∷ Sizes ∷ LaterLine ∷ Ends ∷ Weight ∷ SameEnds ∷ LentLength ∷ Bound ∷ Mark ∷ Degree ∷ Price ∷ OddSet ∷ Uncovered
+      ∷ NotBipartite ∷ Disagreement ∷ WrongIndex ∷ BoundNotOne ∷ AssignmentLine ∷ Sources ∷ [];
+  numbers = refl;
+  apart = λ f h e. same-fault (told-same (refuses f 0) (refuses h 0) (ap (λ (n : ℕ). refusedWith n 0) e));
+}
 
 -- What refuses with a number does so with a fault.
 refused-by : {A : Type 0} (o : Outcome A) (i p : ℕ) → Refuses o i p → (f : Fault) × (o ≡ refuses f p)
 refused-by (yields a) i p e = zero-one (cc)
 refused-by (refuses f q) i p e = (f, ap (refuses f) (let s : q ≡ p = cc in s))
 
+-- The output of a call that yields anything.
+pub zero-on-refusal : {A N : Type 0} (z : N) (f : A → List N) → ZeroOnRefusal z f
+zero-on-refusal z f n W i p e = ap (output n z f) (refused-by W i p e .1)
+
 pub zero-after-refusal : ZeroAfterRefusal
 zero-after-refusal = record {
-  outputs = λ n z f W i p e. ap (output n z f) (refused-by W i p e .1);
+  graphNumbers = zero-on-refusal 0;
+  graphIntegers = zero-on-refusal (pos 0);
+  numbers = zero-on-refusal 0 (λ (xs : List ℕ). xs);
+  integers = zero-on-refusal (pos 0) (λ (zs : List ℤ). zs);
   solver = λ g bound index lent S workspace L i p e.
       let r = refused-by (solve g bound index lent) i p e in (L .refused (r .0) p (r .1), L .cleared);
 }
@@ -116,35 +113,35 @@ zero-after-refusal = record {
 passes-on : {A : Type 0} (ts : List Test) (o : Outcome A) → Passing ts → passing ts o ≡ o
 passes-on ts o p = pass ts (passes ts (yields tt) tt p .0) o
 
-graph-read : (text : List ℕ) → textFits text ≡ true → readGraph mostEdges mostEdges mostEdges text ≡ readText (graphLayout New Field.Integer) text
+graph-by-lines : (text : List ℕ) → textFits text ≡ true → readGraph mostEdges mostEdges mostEdges text ≡ readText (graphLayout New Field.Integer) text
 unfolding readGraphBy
-graph-read text fits = once-passes TextLength (textFits text) [] (readText (graphLayout New Field.Integer) text) fits
+graph-by-lines text fits = once-passes TextLength (textFits text) [] (readText (graphLayout New Field.Integer) text) fits
 
-numbers-read : (what : _) (count : ℕ) (text : List ℕ) → upTo mostNumbers count ≡ true → textFits text ≡ true →
+numbers-by-lines : (what : _) (count : ℕ) (text : List ℕ) → upTo mostNumbers count ≡ true → textFits text ≡ true →
     readNumbers what count count text ≡ readText (numberLayout New what count) text
 unfolding readNumbersBy
-numbers-read what count text sizes fits =
+numbers-by-lines what count text sizes fits =
     once-passes LentLength (eqb count count) (once Sizes (upTo mostNumbers count) ∷ once TextLength (textFits text) ∷ [])
     (readText (numberLayout New what count) text) (eq-eqb count count refl)
     ∙ once-passes Sizes (upTo mostNumbers count) (once TextLength (textFits text) ∷ []) (readText (numberLayout New what count) text) sizes
     ∙ once-passes TextLength (textFits text) [] (readText (numberLayout New what count) text) fits
 
-subgraph-read : (g : Graph) (text : List ℕ) → Passing (once LentLength (graphLengths g) ∷ graphTests g) → textFits text ≡ true →
+subgraph-by-lines : (g : Graph) (text : List ℕ) → Passing (once LentLength (graphLengths g) ∷ graphTests g) → textFits text ≡ true →
     readSubgraph g (g .edges) text ≡ readText (subgraphLayout New g) text
 unfolding readSubgraphBy
-subgraph-read g text p fits =
+subgraph-by-lines g text p fits =
     let w = once-yields LentLength (graphLengths g) (graphTests g) (yields tt) tt p in
     let rest = passing (once TextLength (textFits text) ∷ []) (readText (subgraphLayout New g) text) in
     once-passes LentLength (graphLengths g && eqb (g .edges) (g .edges)) (graphTests g) rest (w .0 also eq-eqb (g .edges) (g .edges) refl)
     ∙ passes-on (graphTests g) rest (w .1)
     ∙ once-passes TextLength (textFits text) [] (readText (subgraphLayout New g) text) fits
 
-assignment-read : (text : List ℕ) → textFits text ≡ true → readAssignment mostEdges mostEdges mostEdges mostVertices text ≡ readArcs text
+assignment-by-lines : (text : List ℕ) → textFits text ≡ true → readAssignment mostEdges mostEdges mostEdges mostVertices text ≡ readArcs text
 unfolding readAssignment
-assignment-read text fits = once-passes TextLength (textFits text) [] (readArcs text) fits
+assignment-by-lines text fits = once-passes TextLength (textFits text) [] (readArcs text) fits
 
 pub read-as-defined : ReadAsDefined
-read-as-defined = record { graph = graph-read; numbers = numbers-read; subgraph = subgraph-read; assignment = assignment-read }
+read-as-defined = record { graph = graph-by-lines; numbers = numbers-by-lines; subgraph = subgraph-by-lines; assignment = assignment-by-lines }
 
 pub reads-back : ReadsBack
 reads-back = record { back = read-back; apart = written-apart }
@@ -309,6 +306,9 @@ optimum-exists = record {
 
 -- ---- Request U1
 
+pub index-laid-out : IndexLaidOut
+index-laid-out g index e = let p = index-tested g index e in subst (LaidOut g) (sym (p .is)) (laid-out g (p .passed .sound))
+
 pub index-lists-edges : IndexListsEdges
 index-lists-edges g index e = let p = index-tested g index e in subst (ListsEdges g) (sym (p .is)) (lists-edges g (p .passed .sound))
 
@@ -328,4 +328,10 @@ passed-built g index e =
     ∙ ap (λ (xs : List ℕ). yields xs) (sym (p .is))
 
 pub one-index : OneIndex
-one-index = record { passes = built-passes; only = passed-built }
+one-index = record {
+  passes = built-passes;
+  only = passed-built;
+  other = tester-refuses;
+  solverOnly = taken-built;
+  solverOther = λ g bound index other lent e. solver-refuses-other g bound index lent e other;
+}

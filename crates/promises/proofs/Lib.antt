@@ -1,6 +1,9 @@
 pub mod Listing
+pub mod Solver
 pub mod Kept
 pub mod Rewritten
 pub mod Tidied
+pub mod Programs
 pub mod HalfPoints
 pub mod Assignments
+pub mod Root

@@ -1,21 +1,22 @@
--- How often an edge's number stands in the index.
+-- How the index is laid out, and how often an edge's number stands in it.
 use Prim.Native.Nat.{ℕ, zero, suc, _+_, _-_, _≤_, _<_}
 use mathlib.Core.Path.{_≡_, refl, sym, ap, ap₂, _∙_}
 use mathlib.Core.Logic.{_≢_}
 use mathlib.Core.Bool.{Bool, true, false, cond}
 use mathlib.Core.List.{List, [], _∷_, _++_}
 use native.Mathlib.Omega.{arith}
-use native.Mathlib.Decide.{ℕ-discrete}
+use native.Mathlib.Decide.{ℕ-discrete, decLt}
 use lib.ListN.{length, getD, take, drop, length-drop}
 use lib.Seq.{take-all, drop-append-seam, take-append-le, drop-append-le}
-use Rattle.integers.specs.Sum.{sum, is}
+use Rattle.integers.specs.Sum.{sum}
 use Rattle.integers.proofs.Sum.{is-same, is-other, sum-cong}
 use Rattle.graph.specs.Graph.{Graph, shapeOf, vertices, firstEnd, secondEnd}
 use Rattle.graph.specs.Subgraph.{endsAt}
 use Rattle.graph.specs.Passed.{Sound}
 use Rattle.graph.specs.Index.{isEnd, numbersWhere, chained, edgesOf, offset, indexOf}
-use Rattle.graph.proofs.Index.{startOf, start-next, start-more, chained-long, ones-long, is-end-first, is-end-second, is-end-not, offset-at, offset-next, one-end, both-ends}
-use Rattle.promises.specs.Promises.{occurs, edgeNumbers, numbersUnder, ListsEdges}
+use Rattle.graph.proofs.Index.{count-more, item-at, startOf, start-next, start-more, chained-long, ones-long, is-end-first, is-end-second, is-end-not, offset-at, offset-next}
+use Rattle.graph.proofs.Index.{seen, one-end, seen-next, both-ends, offset-end, index-long}
+use Rattle.promises.specs.Promises.{occurs, edgeNumbers, numbersUnder, LaidOut, ListsEdges}
 
 occurs-append : (k : ℕ) (xs ys : List ℕ) → occurs k (xs ++ ys) ≡ occurs k xs + occurs k ys
 occurs-append k [] ys = omega arith
@@ -53,6 +54,16 @@ module _ (has : ℕ → Bool) where
       other i true = omega (arith, is-other (suc n) (suc e) (λ h. i (omega (arith, h))))
       other i false = refl
 
+  -- They rise.
+  numbers-rise : (n i j : ℕ) → i < j → j < length (numbersWhere n has) → getD (numbersWhere n has) i 0 < getD (numbersWhere n has) j 0
+  numbers-rise n i j l b =
+      let a = item-at has n i (omega arith) in
+      let c = item-at has n j b in
+      elim (decLt (a .item) (c .item)) [
+        | yes h ↦ omega (arith, a .number, c .number)
+        | no h ↦ absurd (omega (arith, h, a .place, c .place, count-more has (c .item) (a .item) (omega (arith, h))))
+      ]
+
 -- Lists one after the other.
 module _ (list : ℕ → List ℕ) where
   occurs-chained : (k n : ℕ) → occurs k (chained n list) ≡ sum n (λ v. occurs k (list v))
@@ -79,6 +90,10 @@ module _ (list : ℕ → List ℕ) where
         ∙ part n v v-in
   ]
 
+chained-cong : (n : ℕ) (f h : ℕ → List ℕ) → ((v : ℕ) → v < n → f v ≡ h v) → chained n f ≡ chained n h
+chained-cong zero f h same = refl
+chained-cong (suc n) f h same = ap₂ _++_ (chained-cong n f h (λ v l. same v (omega arith))) (same n (omega arith))
+
 module _ (g : Graph) where
   numbers-after : edgeNumbers (vertices g) (indexOf g) ≡ chained (vertices g) (edgesOf g)
   numbers-after =
@@ -100,6 +115,25 @@ module _ (g : Graph) where
   under-end v e l b = ap (occurs (suc e)) (under v l) ∙ number-once (isEnd g v) (g .edges) e b
 
   module _ (s : Sound (shapeOf g) (g .row) (g .column)) where
+    -- A vertex has as many numbers as edges that it is an end of.
+    seen-ends : (v k : ℕ) → k ≤ g .edges → seen g v k ≡ sum k (λ e. endsAt g v e)
+    seen-ends v zero l = refl
+    seen-ends v (suc k) l = seen-next g s v k (omega arith) ∙ omega (arith, seen-ends v k (omega arith))
+
+    pub laid-out : LaidOut g (indexOf g)
+    laid-out = record {
+      long = index-long g s;
+      first = offset-at g 0 (omega arith);
+      last = offset-at g (vertices g) (omega arith) ∙ offset-end g s;
+      counts = λ v l.
+          offset-at g v l
+          ∙ sum-cong v (λ u. length (edgesOf g u)) (λ u. length (numbersUnder (vertices g) (indexOf g) u)) (λ u b. ap length (sym (under u (omega arith))));
+      grouped = numbers-after ∙ chained-cong (vertices g) (edgesOf g) (numbersUnder (vertices g) (indexOf g)) (λ v l. sym (under v l));
+      many = λ v l. ap length (under v l) ∙ seen-ends v (g .edges) (omega arith);
+      rising = λ v l i j a b.
+          rw (under v l) (numbers-rise (isEnd g v) (g .edges) i j a (omega (arith, ap length (under v l))));
+    }
+
     pub lists-edges : ListsEdges g (indexOf g)
     lists-edges = record {
       twice = λ e l.

@@ -1,5 +1,5 @@
--- The promises: each sentence of the three demands and of the requests, as a statement over what the calls yield and leave, in their order.
--- What a call's contract says, that its answer and all that is lent to it are what these definitions yield, is proved of its code, and so is that
+-- The promises: each sentence of the three demands, of the two programs and of the requests, as a statement over what the calls yield and leave, in their
+-- order. What a call's contract says, that its answer and all that is lent to it are what these definitions yield, is proved of its code, and so is that
 -- it touches memory only within what is lent, and ends.
 use Prim.Native.Nat.{ℕ, suc, _+_, _*_, _-_, _≤_, _<_}
 use mathlib.Core.Path.{_≡_}
@@ -10,16 +10,16 @@ use mathlib.Core.Option.{some}
 use lib.IntN.{ℤ, pos, _-ℤ_, _*ℤ_}
 use lib.ListN.{length, getD, replicate, take, drop}
 use lib.Signed.{_≤ℤ_, leZ}
-use Rattle.integers.specs.Sum.{sumℤ, is}
-use Rattle.graph.specs.declared.Kind.the-variants.{Bipartite}
+use Rattle.integers.specs.Sum.{sum, sumℤ, is}
+use Rattle.graph.specs.declared.Kind.the-variants.{Bipartite, General}
 use Rattle.graph.specs.declared.Fault.{Fault}
-use Rattle.graph.specs.declared.Fault.the-variants.{LentLength}
-use Rattle.graph.specs.Limits.{mostVertices, mostEdges, mostNumbers, mostSets, vertexWords, edgeWords, longestText, greatestSolverPrice, greatestOldPrice}
-use Rattle.graph.specs.Refusal.{numberOf, Outcome, yields, told, refusedWith, Test, once, passing, output}
+use Rattle.graph.specs.declared.Fault.the-variants.{LentLength, NotBipartite}
+use Rattle.graph.specs.Limits.{mostVertices, mostEdges, mostNumbers, mostSets, vertexWords, edgeWords, longestText, subgraphBytes, greatestSolverPrice, greatestOldPrice}
+use Rattle.graph.specs.Refusal.{numberOf, Outcome, yields, told, refusedWith, Test, once, passing, filled, output}
 use Rattle.graph.specs.Graph.{Graph, vertices, firstEnd, secondEnd, weightAt, boundAt, upTo, priceInRange}
-use Rattle.graph.specs.Subgraph.{markAt, Feasible, Optimal, weightOf, lacks}
+use Rattle.graph.specs.Subgraph.{markAt, endsAt, Feasible, Optimal, weightOf, lacks}
 use Rattle.graph.specs.Tests.{graphLengths, graphTests, boundTest}
-use Rattle.graph.specs.Index.{buildTests, buildIndex, indexTests, testIndex}
+use Rattle.graph.specs.Index.{chained, buildTests, buildIndex, indexTests, testIndex}
 use Rattle.layout.specs.declared.Numbers.{Numbers}
 use Rattle.layout.specs.declared.Numbers.the-variants as Numbers
 use Rattle.layout.specs.declared.Rules.{Rules}
@@ -29,7 +29,7 @@ use Rattle.layout.specs.Text.{bytes, newline, blank, lines, words, natural, int
 use Rattle.layout.specs.Lines.{readText}
 use Rattle.layout.specs.GraphText.{graphLayout, graphReaderTests, readGraphBy, readGraph, graphText}
 use Rattle.layout.specs.NumberText.{inRange, numberLayout, numberReaderTests, readNumbersBy, readNumbers}
-use Rattle.layout.specs.SubgraphText.{subgraphLayout, subgraphReaderTests, readSubgraphBy, readSubgraph, writerTests, writeSubgraph}
+use Rattle.layout.specs.SubgraphText.{subgraphText, subgraphLayout, subgraphReaderTests, readSubgraphBy, readSubgraph, writerTests, writeSubgraph}
 use Rattle.layout.specs.TidyText.{tidyTests, tidyGraph}
 use Rattle.layout.specs.AssignmentText.{assignmentTests, writeAssignment, readArcs, assignmentReaderTests, readAssignment, unitBounds}
 use Rattle.layout.specs.Rewrite.{ending, wordAnew, lineAnew, linesAnew, textAnew, rewriteOutput}
@@ -38,26 +38,49 @@ use Rattle.dual.specs.Prices.{Prices, vertexPrice, edgePrice, setPrice}
 use Rattle.dual.specs.Sets.{keepsRules}
 use Rattle.dual.specs.Gap.{halfPoints, worthAt, coverOf, covered, totalOf, gapOf, vertexSlack, setSlack, edgeSlack, coverSlack}
 use Rattle.dual.specs.Measure.{measure, measureTests}
-use Rattle.dual.specs.Solve.{Lent, Outputs, solverTests, solve, solverPrices, SolverPrice, Zero, Left}
+use Rattle.dual.specs.Solve.{Lent, Outputs, solverTests, solve, withoutSets, solverPrices, SolverPrice, Zero, Left}
 use Rattle.duality.specs.Meaning.{Meaning}
 use Rattle.tidying.specs.Alike.{SameSheet, Rising, ReadAlike}
-use Rattle.report.specs.Programs.{lentFor, tidyOutput, toDimacsOutput, fromDimacsOutput}
+use Rattle.report.specs.declared.Source.{Source}
+use Rattle.report.specs.declared.Source.the-variants as Source
+use Rattle.report.specs.Report.{refusedLine, measuredLine}
+use Rattle.report.specs.Programs.{has, ends, Problem, problemIn, markOutput, lentFor, solveProblem, solveOutput, Picked, SolveComposed}
+use Rattle.report.specs.Programs.{tidyOutput, toDimacsOutput, fromDimacsOutput}
 
 -- ---- Demand 1
 
--- "Each call .. gives a listed refusal or a result": what a call yields is a result or a refusal, and each refusal has a number of the table.
+-- How often a number stands in a list.
+abbrev pub occurs : ℕ → List ℕ → ℕ
+occurs k [] = 0
+occurs k (x ∷ xs) = is x k + occurs k xs
+
+-- The numbers of the refusal table.
+abbrev pub refusalNumbers : List ℕ
+refusalNumbers = 1 ∷ 2 ∷ 3 ∷ 4 ∷ 5 ∷ 6 ∷ 7 ∷ 8 ∷ 9 ∷ 10 ∷ 11 ∷ 12 ∷ 13 ∷ 14 ∷ 15 ∷ 16 ∷ 17 ∷ 18 ∷ 19 ∷ 20 ∷ 21 ∷ []
+
+-- "Each call .. gives a listed refusal or a result": what a call yields is a result or a refusal, of a fault. The number of each fault stands in the
+-- table once, each number of the table is that of a fault, which are listed here in its order, and no two faults have the same.
 pub record Listed : Type 0 where
-  pub least : (f : Fault) → 1 ≤ numberOf f
-  pub most : (f : Fault) → numberOf f ≤ 21
+  pub inTable : (f : Fault) → occurs (numberOf f) refusalNumbers ≡ 1
+  pub faults : List Fault
+  pub numbers : map numberOf faults ≡ refusalNumbers
+  pub apart : (f h : Fault) → numberOf f ≡ numberOf h → f ≡ h
 
 -- A call refuses with this number of the table at this place. Its answer says the same, by its contract (layout, specs/Answers.antt, and dual).
 abbrev pub Refuses : {A : Type 0} → Outcome A → ℕ → ℕ → Type 0
 Refuses o number place = told o ≡ refusedWith number place
 
--- "After a refusal every lent output and workspace number is 0": whatever a call yields, its outputs hold only 0 after a refusal, and so do the
--- solver's, and its workspace.
-pub record ZeroAfterRefusal : Type 1 where
-  pub outputs : {A N : Type 0} (n : ℕ) (z : N) (f : A → List N) (W : Outcome A) (i p : ℕ) → Refuses W i p → output n z f W ≡ replicate n z
+-- An output that is to hold f of what a call yields, and may have any length n, holds only z, which is 0, after a refusal.
+abbrev pub ZeroOnRefusal : {A N : Type 0} → N → (A → List N) → Type 0
+ZeroOnRefusal {A} {N} z f = (n : ℕ) (W : Outcome A) (i p : ℕ) → Refuses W i p → output n z f W ≡ replicate n z
+
+-- "After a refusal every lent output and workspace number is 0": whatever a call yields, its outputs hold only 0 after a refusal: numbers of a graph
+-- (rows and columns, weights, and the bounds that come in with it); marks, an index or bytes; and bounds or prices. So do the solver's, and its workspace.
+pub record ZeroAfterRefusal : Type 0 where
+  pub graphNumbers : (f : Graph → List ℕ) → ZeroOnRefusal 0 f
+  pub graphIntegers : (f : Graph → List ℤ) → ZeroOnRefusal (pos 0) f
+  pub numbers : ZeroOnRefusal 0 (λ (xs : List ℕ). xs)
+  pub integers : ZeroOnRefusal (pos 0) (λ (zs : List ℤ). zs)
   pub solver : (g : Graph) (bound : List ℤ) (index : List ℕ) (lent : Lent) (S : Outputs) (workspace : List ℤ) → Left g bound index lent S workspace →
       (i p : ℕ) → Refuses (solve g bound index lent) i p → Zero lent S × (workspace ≡ replicate (lent .workspace) (pos 0))
 
@@ -160,12 +183,58 @@ pub record OptimumExists : Type 0 where
   pub some : (g : Graph) (bound : List ℤ) → Accepts g bound → (x : List ℕ) × Optimal g bound x
   pub same : (g : Graph) (bound : List ℤ) (x y z : List ℕ) → Optimal g bound x → Optimal g bound y → lacks g x z ≡ lacks g y z
 
--- ---- Request U1
+-- ---- The two programs
 
--- How often a number stands in a list.
-abbrev pub occurs : ℕ → List ℕ → ℕ
-occurs k [] = 0
-occurs k (x ∷ xs) = is x k + occurs k xs
+-- A text is that of a plan of largest merit, and reads back as that plan.
+pub record WritesBest (g : Graph) (bound : List ℤ) (plan text : List ℕ) : Type 0 where
+  pub best : Optimal g bound plan
+  pub written : text ≡ subgraphText g plan
+  pub reads : readSubgraph g (g .edges) text ≡ yields plan
+
+-- What is left of a buffer of 16,384 bytes is such a text and then 0, and r is the text's length.
+pub record LeavesBest (g : Graph) (bound : List ℤ) (after : List ℕ) (r : ℕ) : Type 0 where
+  pub plan : List ℕ
+  pub text : List ℕ
+  pub writes : WritesBest g bound plan text
+  pub content : after ≡ filled subgraphBytes 0 text
+  pub size : r ≡ length text
+
+-- "`solve` reads sheet.mtx and limits.mtx and writes the plan": a two-sided sheet with its limits is taken by the solver, and whichever plan it picks, its
+-- text is written, and left in the program's buffer. Of a one-sided sheet the refusal 16 is written, and of a file that is refused its refusal.
+pub record SolveWrites : Type 0 where
+  pub taken : (sheet limits : List ℕ) (P : Problem) → problemIn sheet limits ≡ has P → P .graph .kind ≡ Bipartite →
+      solveProblem (P .graph) (P .bound) ≡ has tt
+  pub plan : (sheet limits x : List ℕ) (P : Problem) → problemIn sheet limits ≡ has P → P .graph .kind ≡ Bipartite → Picked sheet limits x →
+      WritesBest (P .graph) (P .bound) x (solveOutput sheet limits x)
+  pub left : (sheet limits before after : List ℕ) (r : ℕ) (P : Problem) → problemIn sheet limits ≡ has P → P .graph .kind ≡ Bipartite →
+      SolveComposed sheet limits before after r → length before ≡ subgraphBytes → LeavesBest (P .graph) (P .bound) after r
+  pub oneSided : (sheet limits x : List ℕ) (P : Problem) → problemIn sheet limits ≡ has P → P .graph .kind ≡ General →
+      solveOutput sheet limits x ≡ refusedLine Source.Input NotBipartite 0
+  pub line16 : refusedLine Source.Input NotBipartite 0 ≡ unlines (bytes "refused 16 at 0 in input" ∷ [])
+  pub refused : (sheet limits x : List ℕ) (file : Source) (f : Fault) (place : ℕ) → problemIn sheet limits ≡ ends file f place →
+      solveOutput sheet limits x ≡ refusedLine file f place
+
+-- What `mark` reads of the four texts: a graph with its bounds, a plan x, and the prices zs, those of the vertices first.
+pub record MarkReads (sheet limits plan prices : List ℕ) (P : Problem) (x : List ℕ) (zs : List ℤ) : Type 0 where
+  pub problemRead : problemIn sheet limits ≡ has P
+  pub planRead : readSubgraph (P .graph) (P .graph .edges) plan ≡ yields x
+  pub pricesRead : readNumbers Numbers.Prices (vertices (P .graph) + P .graph .edges) (vertices (P .graph) + P .graph .edges) prices ≡ yields zs
+
+-- The price sheet of such prices, which has no odd sets.
+abbrev pub pricesFrom : Graph → List ℤ → Prices
+pricesFrom g zs = withoutSets (take (vertices g) zs) (drop (vertices g) zs)
+
+-- "`mark` also reads plan.mtx and prices.mtx, takes no groups, and writes one line": where the plan is valid and the prices cover every pair, the line of
+-- its merit, the total, the leftovers and the gap, as they are defined.
+abbrev pub MarkWrites : Type 0
+MarkWrites =
+    (sheet limits plan prices : List ℕ) (P : Problem) (x : List ℕ) (zs : List ℤ) → MarkReads sheet limits plan prices P x zs →
+    Feasible (P .graph) (P .bound) x →
+    ((e : ℕ) → e < P .graph .edges → worthAt (P .graph) e ≤ℤ coverOf (P .graph) (pricesFrom (P .graph) zs) e) →
+    (M : Measures) × (measure (P .graph) (P .bound) x (pricesFrom (P .graph) zs) ≡ yields M)
+    × Meaning (P .graph) (P .bound) x (pricesFrom (P .graph) zs) M × (markOutput sheet limits plan prices ≡ measuredLine M)
+
+-- ---- Request U1
 
 -- The edge numbers of an index of n vertices, which follow its n + 1 offsets; and those of vertex v, which stand there from its offset to the next.
 abbrev pub edgeNumbers : ℕ → List ℕ → List ℕ
@@ -173,6 +242,23 @@ edgeNumbers n index = drop (suc n) index
 
 abbrev pub numbersUnder : ℕ → List ℕ → ℕ → List ℕ
 numbersUnder n index v = take (getD index (suc v) 0 - getD index v 0) (drop (getD index v 0) (edgeNumbers n index))
+
+-- The index is laid out so: n + 1 offsets and then 2m edge numbers, which are those under the vertices, one vertex after the other; an offset counts the
+-- numbers under the vertices before; and under a vertex there are as many as it has edges, and they rise.
+pub record LaidOut (g : Graph) (index : List ℕ) : Type 0 where
+  pub long : length index ≡ suc (vertices g) + 2 * g .edges
+  pub first : getD index 0 0 ≡ 0
+  pub last : getD index (vertices g) 0 ≡ 2 * g .edges
+  pub counts : (v : ℕ) → v ≤ vertices g → getD index v 0 ≡ sum v (λ u. length (numbersUnder (vertices g) index u))
+  pub grouped : edgeNumbers (vertices g) index ≡ chained (vertices g) (numbersUnder (vertices g) index)
+  pub many : (v : ℕ) → v < vertices g → length (numbersUnder (vertices g) index v) ≡ sum (g .edges) (λ e. endsAt g v e)
+  pub rising : (v : ℕ) → v < vertices g → (i j : ℕ) → i < j → j < length (numbersUnder (vertices g) index v) →
+      getD (numbersUnder (vertices g) index v) i 0 < getD (numbersUnder (vertices g) index v) j 0
+
+-- "n + 1 offsets, then 2m pair numbers, grouped by fish, rising within a fish. Offset i counts the pair numbers of fish before fish i; the last is 2m":
+-- so is an index that passes.
+abbrev pub IndexLaidOut : Type 0
+IndexLaidOut = (g : Graph) (index : List ℕ) → testIndex g index ≡ yields tt → LaidOut g index
 
 -- The index lists each edge twice, once under each end, and under no other vertex.
 pub record ListsEdges (g : Graph) (index : List ℕ) : Type 0 where
@@ -185,10 +271,25 @@ pub record ListsEdges (g : Graph) (index : List ℕ) : Type 0 where
 abbrev pub IndexListsEdges : Type 0
 IndexListsEdges = (g : Graph) (index : List ℕ) → testIndex g index ≡ yields tt → ListsEdges g index
 
--- "The lent index is not the sheet's": just one list is a graph's index, the one that is built. It passes, and no other does.
+-- A call refuses a lent index with 18, at the first position where it differs from the one that is right. Positions count from 1.
+pub record RefusedWhereUnlike (W : Outcome (Unit {0})) (index other : List ℕ) : Type 0 where
+  pub position : ℕ
+  pub among : position < length index
+  pub unlike : getD other position 0 ≢ getD index position 0
+  pub before : (k : ℕ) → k < position → getD other k 0 ≡ getD index k 0
+  pub refused : Refuses W 18 (suc position)
+
+-- "18, the lent index is not the sheet's, place the first position that differs": just one list is a graph's index, the one that is built. It passes, and
+-- no other does, by the call that tests one and by the solver; where one index is taken, any other of its length is refused so.
 pub record OneIndex : Type 0 where
   pub passes : (g : Graph) (n : ℕ) (index : List ℕ) → buildIndex g n ≡ yields index → testIndex g index ≡ yields tt
   pub only : (g : Graph) (index : List ℕ) → testIndex g index ≡ yields tt → buildIndex g (length index) ≡ yields index
+  pub other : (g : Graph) (index other : List ℕ) → testIndex g index ≡ yields tt → length other ≡ length index → other ≢ index →
+      RefusedWhereUnlike (testIndex g other) index other
+  pub solverOnly : (g : Graph) (bound : List ℤ) (index : List ℕ) (lent : Lent) → solve g bound index lent ≡ yields tt →
+      buildIndex g (length index) ≡ yields index
+  pub solverOther : (g : Graph) (bound : List ℤ) (index other : List ℕ) (lent : Lent) → solve g bound index lent ≡ yields tt →
+      length other ≡ length index → other ≢ index → RefusedWhereUnlike (solve g bound other lent) index other
 
 -- ---- Request U2
 
@@ -312,9 +413,9 @@ pub record TwiceWhatIsLacking : Type 0 where
       solve g bound index lent ≡ yields tt → (y : List ℕ) → Feasible g bound y →
       (M : Measures) × (measure g bound y (solverPrices S) ≡ yields M) × (M .gap ≡ pos 2 *ℤ lacks g (S .chosen) y)
 
--- A stored price sheet, whose prices are in points, doubled.
-abbrev pub doubled : Prices → Prices
-doubled P = record {
+-- A stored price sheet, whose prices are in points, in half points: each price doubled.
+abbrev pub inHalfPoints : Prices → Prices
+inHalfPoints P = record {
   vertex = map halfPoints (P .vertex);
   edge = map halfPoints (P .edge);
   sets = P .sets;
@@ -326,14 +427,14 @@ doubled P = record {
 -- an edge just where the prices in points reached its weight, and their total, the gap and the slacks are those in points, doubled.
 pub record StoredPricesDoubled : Type 0 where
   pub range : (z : ℤ) → inRange Old Numbers.Prices z ≡ true → priceInRange (halfPoints z) ≡ true
-  pub cover : (g : Graph) (P : Prices) (e : ℕ) → covered g (doubled P) e ≡ leZ (weightAt g e) (coverOf g P e)
-  pub total : (g : Graph) (bound : List ℤ) (P : Prices) → totalOf g bound (doubled P) ≡ halfPoints (totalOf g bound P)
-  pub gap : (g : Graph) (bound : List ℤ) (x : List ℕ) (P : Prices) → gapOf g bound x (doubled P) ≡ halfPoints (totalOf g bound P -ℤ weightOf g x)
-  pub ofVertices : (g : Graph) (bound : List ℤ) (x : List ℕ) (P : Prices) → vertexSlack g bound x (doubled P) ≡ halfPoints (vertexSlack g bound x P)
-  pub ofSets : (g : Graph) (bound : List ℤ) (x : List ℕ) (P : Prices) → setSlack g bound x (doubled P) ≡ halfPoints (setSlack g bound x P)
-  pub ofEdges : (g : Graph) (x : List ℕ) (P : Prices) → edgeSlack g x (doubled P) ≡ halfPoints (edgeSlack g x P)
+  pub cover : (g : Graph) (P : Prices) (e : ℕ) → covered g (inHalfPoints P) e ≡ leZ (weightAt g e) (coverOf g P e)
+  pub total : (g : Graph) (bound : List ℤ) (P : Prices) → totalOf g bound (inHalfPoints P) ≡ halfPoints (totalOf g bound P)
+  pub gap : (g : Graph) (bound : List ℤ) (x : List ℕ) (P : Prices) → gapOf g bound x (inHalfPoints P) ≡ halfPoints (totalOf g bound P -ℤ weightOf g x)
+  pub ofVertices : (g : Graph) (bound : List ℤ) (x : List ℕ) (P : Prices) → vertexSlack g bound x (inHalfPoints P) ≡ halfPoints (vertexSlack g bound x P)
+  pub ofSets : (g : Graph) (bound : List ℤ) (x : List ℕ) (P : Prices) → setSlack g bound x (inHalfPoints P) ≡ halfPoints (setSlack g bound x P)
+  pub ofEdges : (g : Graph) (x : List ℕ) (P : Prices) → edgeSlack g x (inHalfPoints P) ≡ halfPoints (edgeSlack g x P)
   pub ofCover : (g : Graph) (x : List ℕ) (P : Prices) →
-      coverSlack g x (doubled P) ≡ halfPoints (sumℤ (g .edges) (λ e. pos (markAt x e) *ℤ (coverOf g P e -ℤ weightAt g e)))
+      coverSlack g x (inHalfPoints P) ≡ halfPoints (sumℤ (g .edges) (λ e. pos (markAt x e) *ℤ (coverOf g P e -ℤ weightAt g e)))
 
 -- ---- Request U7
 
@@ -392,3 +493,42 @@ pub record SheetsThereAndBack : Type 0 where
   pub out : (sheet limits : List ℕ) (g : Graph) → UnitSheet sheet limits g → GoesOutAs g (unitBounds g) (toDimacsOutput sheet limits)
   pub back : (sheet limits : List ℕ) (g : Graph) → UnitSheet sheet limits g → fromDimacsOutput (toDimacsOutput sheet limits) ≡ graphText g
   pub read : (sheet limits : List ℕ) (g : Graph) → UnitSheet sheet limits g → ReadAs (fromDimacsOutput (toDimacsOutput sheet limits)) g
+
+-- ---- All of them
+
+-- Every promise, in the order of this file.
+pub record Promises : Type 0 where
+  pub listed : Listed
+  pub zeroAfterRefusal : ZeroAfterRefusal
+  pub readAsDefined : ReadAsDefined
+  pub readsBack : ReadsBack
+  pub largestMerit : LargestMerit
+  pub refusedJustWhereListed : RefusedJustWhereListed
+  pub solverCertifies : SolverCertifies
+  pub measuredMeans : MeasuredMeans
+  pub optimumExists : OptimumExists
+  pub solveWrites : SolveWrites
+  pub markWrites : MarkWrites
+  pub indexLaidOut : IndexLaidOut
+  pub indexListsEdges : IndexListsEdges
+  pub oneIndex : OneIndex
+  pub oneWay : OneWay
+  pub oldTextsRewritten : OldTextsRewritten
+  pub newTextsKept : NewTextsKept
+  pub copiesTheRest : CopiesTheRest
+  pub cannotRead : CannotRead
+  pub planOfSomeSheet : PlanOfSomeSheet
+  pub readSheetsPass : ReadSheetsPass
+  pub anySheetTidied : AnySheetTidied
+  pub tidyKept : TidyKept
+  pub tidiedAlike : TidiedAlike
+  pub plansKept : PlansKept
+  pub countedInHalfPoints : CountedInHalfPoints
+  pub solverPricesEven : SolverPricesEven
+  pub twiceWhatIsLacking : TwiceWhatIsLacking
+  pub storedPricesDoubled : StoredPricesDoubled
+  pub thereAndBack : ThereAndBack
+  pub onlyUnitBounds : OnlyUnitBounds
+  pub boundsComeInAsOne : BoundsComeInAsOne
+  pub readAssignmentsPass : ReadAssignmentsPass
+  pub sheetsThereAndBack : SheetsThereAndBack

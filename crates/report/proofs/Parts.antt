@@ -19,9 +19,10 @@ use Rattle.integers.proofs.Order.{back}
 use Rattle.graph.specs.declared.Fault.{Fault}
 use Rattle.graph.specs.Refusal.{numberOf, filled}
 use Rattle.layout.specs.Text.{bytes, decimal, signed, spaced, unlines}
-use Rattle.writer.specs.Written.{Puts, over}
-use Rattle.writer.proofs.Over.{puts-long, puts-byte, puts-next, puts-same, over-zeros}
-use Rattle.writer.proofs.Signs.{fromBits}
+use Rattle.digits.specs.Puts.{Puts, over}
+use Rattle.digits.proofs.Over.{puts-long, puts-byte, puts-next, puts-same}
+use Rattle.writer.proofs.Zeros.{over-zeros}
+use Rattle.digits.proofs.Signs.{fromBits}
 use Rattle.report.specs.declared.Source.{Source}
 use Rattle.report.specs.declared.Source.the-variants as Source
 use Rattle.report.specs.Report.{nameOf, refusedLine, lineBytes, lineRoom, composedBytes, composedLength, Composed}

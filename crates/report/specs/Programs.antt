@@ -71,8 +71,8 @@ readProblem r c w b sheet limits =
     (λ g. andThen (cameFrom Source.Limits (readBounds b (vertices g) limits)) (λ bound. has (record { graph = g; bound = bound })))
 
 -- The programs lend as many as the largest problem has.
-abbrev pub problemOf : List ℕ → List ℕ → Run Problem
-problemOf sheet limits = readProblem mostEdges mostEdges mostEdges mostVertices sheet limits
+abbrev pub problemIn : List ℕ → List ℕ → Run Problem
+problemIn sheet limits = readProblem mostEdges mostEdges mostEdges mostVertices sheet limits
 
 -- `mark` also reads plan.mtx and prices.mtx, first the prices of the vertices and then those of the edges, and takes no odd sets.
 abbrev pub markPrices : Graph → List ℤ → List ℕ → List ℤ → Run Measures
@@ -89,7 +89,7 @@ markProblem g bound plan prices = andThen (cameFrom Source.Plan (readSubgraph g 
 -- What `mark` writes.
 unfoldable pub markOutput : List ℕ → List ℕ → List ℕ → List ℕ → List ℕ
 markOutput sheet limits plan prices =
-    written measuredLine (andThen (problemOf sheet limits) (λ P. markProblem (P .graph) (P .bound) plan prices))
+    written measuredLine (andThen (problemIn sheet limits) (λ P. markProblem (P .graph) (P .bound) plan prices))
 
 -- `solve` builds the graph's index, and lends the solver just the lengths that the graph gives.
 abbrev pub lentFor : Graph → Lent
@@ -105,11 +105,11 @@ solveProblem g bound = andThen (cameFrom Source.Input (buildIndex g (indexNumber
 unfoldable pub solveOutput : List ℕ → List ℕ → List ℕ → List ℕ
 solveOutput sheet limits x =
     written (λ g. subgraphText g x)
-    (andThen (problemOf sheet limits) (λ P. andThen (solveProblem (P .graph) (P .bound)) (λ u. has (P .graph))))
+    (andThen (problemIn sheet limits) (λ P. andThen (solveProblem (P .graph) (P .bound)) (λ u. has (P .graph))))
 
 -- What holds of that subgraph: it is optimal, wherever the solver accepts what is read.
 pub record Picked (sheet limits x : List ℕ) : Type 0 where
-  pub optimal : (P : Problem) → problemOf sheet limits ≡ has P → solveProblem (P .graph) (P .bound) ≡ has tt → Optimal (P .graph) (P .bound) x
+  pub optimal : (P : Problem) → problemIn sheet limits ≡ has P → solveProblem (P .graph) (P .bound) ≡ has tt → Optimal (P .graph) (P .bound) x
 
 -- `solve` composes in a buffer of just 16,384 bytes.
 abbrev pub subgraphRoom : ℕ → Bool
@@ -143,7 +143,7 @@ toDimacsRun P = cameFrom Source.Input (writeAssignment (P .graph) (P .bound) lon
 
 -- What `to_dimacs` writes.
 unfoldable pub toDimacsOutput : List ℕ → List ℕ → List ℕ
-toDimacsOutput sheet limits = written (λ text. text) (andThen (problemOf sheet limits) toDimacsRun)
+toDimacsOutput sheet limits = written (λ text. text) (andThen (problemIn sheet limits) toDimacsRun)
 
 -- What `from_dimacs` writes of the text of crosses.asn: the text of its graph, in the graph's own order.
 unfoldable pub fromDimacsOutput : List ℕ → List ℕ

@@ -1,15 +1,14 @@
 // What programs write: the line of a refusal, and the line of a measuring.
+use digits::put_decimal;
+use digits::put_signed;
 use dual::Measures;
 use graph::Refusal;
 use writer::put_bytes;
-use writer::put_natural;
-use writer::put_signed;
-ghost use mathlib.Core.Path.{_≡_};
 ghost use mathlib.Core.List.{_++_};
 ghost use Prim.Native.Nat.{_+_, _≤_};
 ghost use lib.ListN.{length};
 ghost use Rattle.layout.specs.Text.{signed};
-ghost use Rattle.writer.specs.Written.{Puts};
+ghost use Rattle.digits.specs.Puts.{Puts};
 ghost use Rattle.report.specs.Report.{nameOf, refusedLine, measuredLine, lineBytes, lineRoom, Composed};
 
 // Room for either line, as specs/Report.antt defines it.
@@ -35,7 +34,7 @@ fn put_named(out: &mut [u8], at: usize, name: &[u8], z: i64) -> usize
 }
 
 // Writes FILE from `at` on. The result is the place after it.
-fn put_source(out: &mut [u8], at: usize, source: Source) -> usize
+fn put_source_name(out: &mut [u8], at: usize, source: Source) -> usize
     requires { ⌜ at + 11 ≤ length (now out) ⌝ }
     ensures { λ r. ⌜ Puts (now (out .entry)) at (nameOf source) (now (out .exit)) r × (r ≤ at + 11) ⌝ }
 {
@@ -58,17 +57,17 @@ fn put_refusal(out: &mut [u8], source: Source, refusal: Refusal) -> usize
     let place = refusal.place;
     let number = graph::number(fault) as u64;
     let mut at = put_bytes(out, 0, b"refused ");
-    at = put_natural(out, at, number);
+    at = put_decimal(out, at, number);
     at = put_bytes(out, at, b" at ");
-    at = put_natural(out, at, place);
+    at = put_decimal(out, at, place);
     at = put_bytes(out, at, b" in ");
-    at = put_source(out, at, source);
+    at = put_source_name(out, at, source);
     out[at] = 10;
     at + 1
 }
 
 // Writes the line of a measuring at the start of `out`. The result is its length.
-fn put_line(out: &mut [u8], m: Measures) -> usize
+fn put_measured_line(out: &mut [u8], m: Measures) -> usize
     requires { ⌜ lineBytes ≤ length (now out) ⌝ }
     ensures { λ r. ⌜ Puts (now (out .entry)) 0 (measuredLine m) (now (out .exit)) r ⌝ }
 {
@@ -87,7 +86,7 @@ fn put_line(out: &mut [u8], m: Measures) -> usize
 pub fn put_refused(out: &mut [u8], source: Source, refusal: Refusal) -> usize
     ensures { λ r. ⌜ Composed lineRoom (refusedLine source (refusal .fault) (refusal .place)) (now (out .entry)) (now (out .exit)) r ⌝ }
 {
-    lent::clear_bytes(out);
+    filling::clear_bytes(out);
     if out.len() < LINE_BYTES {
         return 0;
     }
@@ -98,9 +97,9 @@ pub fn put_refused(out: &mut [u8], source: Source, refusal: Refusal) -> usize
 pub fn put_measures(out: &mut [u8], m: Measures) -> usize
     ensures { λ r. ⌜ Composed lineRoom (measuredLine m) (now (out .entry)) (now (out .exit)) r ⌝ }
 {
-    lent::clear_bytes(out);
+    filling::clear_bytes(out);
     if out.len() < LINE_BYTES {
         return 0;
     }
-    put_line(out, m)
+    put_measured_line(out, m)
 }

@@ -13,7 +13,7 @@ use Rattle.graph.proofs.Passing.{zero-one}
 use Rattle.layout.specs.declared.Rules.the-variants.{Old}
 use Rattle.layout.specs.Text.{bytes, newline, blank, pieces, nonEmpty, lines, words, integer, noWords, blankLine, commentLine, signed, unlines}
 use Rattle.layout.specs.Rewrite.{ending, woven, writtenAs, wordAnew, lineAnew, linesAnew, textAnew, taken, rewriteOutput}
-use Rattle.readback.proofs.Digits.{decimal-some}
+use Rattle.readback.proofs.Digits.{signed-some}
 use Rattle.readback.proofs.Pieces.{Free, AllFree, digits-free, pieces-cut, pieces-whole}
 use Rattle.rewriting.proofs.Written.{old-way, old-long}
 use Rattle.rewriting.proofs.Pieces.{Cutting, nothing, last, more, cutting, ending-none, ending-free, ending-cut, pieces-none, woven-none, woven-last, woven-more}
@@ -26,10 +26,6 @@ use Rattle.rewriting.proofs.Pieces.{Keeps, map-in-place, pieces-map, en
 signed-free : (p : ℕ → Bool) → ((d : ℕ) → d < 10 → p (48 + d) ≡ false) → p 45 ≡ false → (z : ℤ) → Free p (signed z)
 signed-free p none-of minus (pos n) = digits-free p none-of 20 n
 signed-free p none-of minus (negsuc n) = (minus, digits-free p none-of 20 (suc n))
-
-signed-some : (z : ℤ) → 1 ≤ length (signed z)
-signed-some (pos n) = decimal-some n
-signed-some (negsuc n) = omega arith
 
 -- What holds of a word and of every number as it is written holds of the word anew.
 by-word : (P : List ℕ → Type 0) (w : List ℕ) → P w → ((z : ℤ) → integer Old w ≡ some z → P (signed z)) → P (wordAnew w)

@@ -12,7 +12,7 @@ use borrow.Author.Tests.{le-leb, leb-true}
 use Rattle.graph.specs.Refusal.{yields}
 use Rattle.graph.proofs.Passing.{zero-one}
 use Rattle.layout.specs.declared.Rules.the-variants.{New, Old}
-use Rattle.layout.specs.Text.{lines, words, natural, integer, both, all3, oneWord, twoWords, threeWords, noWords, lineFits, blankLine, commentLine}
+use Rattle.layout.specs.Text.{lines, words, natural, integer, bothSome, all3, oneWord, twoWords, threeWords, noWords, lineFits, blankLine, commentLine}
 use Rattle.layout.specs.Lines.{goes, State, start, sizing, reading, Layout, readLines, readText}
 use Rattle.layout.specs.Rewrite.{writtenAs, wordAnew, lineAnew, linesAnew, textAnew}
 use Rattle.layout.proofs.Digits.{absent}
@@ -27,8 +27,8 @@ pub record WordAlike {A : Type 0} (f g : List ℕ → Option A) : Type 0 where
   pub anew : (w : List ℕ) (a : A) → f w ≡ some a → g (wordAnew w) ≡ some a
   pub same : (w : List ℕ) (a : A) → g w ≡ some a → (f w ≡ some a) × (wordAnew w ≡ w)
 
-pub naturals : WordAlike (natural Old) (natural New)
-naturals = record {
+pub kept-naturals : WordAlike (natural Old) (natural New)
+kept-naturals = record {
   anew = λ w n e. let p = natural-read w n e in ap (λ (o : Option ℤ). natural New (writtenAs w o)) (p .0) ∙ p .1;
   same = λ w n e.
       let p = natural-written w n e in
@@ -36,15 +36,15 @@ naturals = record {
       (p .0, ap (writtenAs w) (q .0) ∙ sym (p .1));
 }
 
-pub integers : WordAlike (integer Old) (integer New)
-integers = record {
+pub kept-integers : WordAlike (integer Old) (integer New)
+kept-integers = record {
   anew = λ w z e. ap (λ (o : Option ℤ). integer New (writtenAs w o)) e ∙ old-read (old-way w z e);
   same = λ w z e. let p = integer-written w z e in (p .0, ap (writtenAs w) (p .0) ∙ sym (p .1));
 }
 
 -- ---- the words of a line
 
-both-some : {A B : Type 0} (o : Option A) (p : Option B) (c : A × B) → both o p ≡ some c → (o ≡ some (c .0)) × (p ≡ some (c .1))
+both-some : {A B : Type 0} (o : Option A) (p : Option B) (c : A × B) → bothSome o p ≡ some c → (o ≡ some (c .0)) × (p ≡ some (c .1))
 both-some none p c e = absent e
 both-some (some a) none c e = absent e
 both-some {A} {B} (some a) (some b) c e =
@@ -86,7 +86,7 @@ module _ {A B : Type 0} {f f′ : List ℕ → Option A} {g g′ : List ℕ → 
   unfolding twoWords
   two-anew [] c e = absent e
   two-anew (u ∷ []) c e = absent e
-  two-anew (u ∷ v ∷ []) c e = let p = both-some (f u) (g v) c e in ap₂ both (F .anew u (c .0) (p .0)) (G .anew v (c .1) (p .1))
+  two-anew (u ∷ v ∷ []) c e = let p = both-some (f u) (g v) c e in ap₂ bothSome (F .anew u (c .0) (p .0)) (G .anew v (c .1) (p .1))
   two-anew (u ∷ v ∷ w ∷ ws) c e = absent e
 
   two-same : (ws : List (List ℕ)) (c : A × B) → twoWords f′ g′ ws ≡ some c → (twoWords f g ws ≡ some c) × (map wordAnew ws ≡ ws)
@@ -97,7 +97,7 @@ module _ {A B : Type 0} {f f′ : List ℕ → Option A} {g g′ : List ℕ → 
       let p = both-some (f′ u) (g′ v) c e in
       let q = F .same u (c .0) (p .0) in
       let r = G .same v (c .1) (p .1) in
-      (ap₂ both (q .0) (r .0), ap₂ (λ (x y : List ℕ). x ∷ y ∷ []) (q .1) (r .1))
+      (ap₂ bothSome (q .0) (r .0), ap₂ (λ (x y : List ℕ). x ∷ y ∷ []) (q .1) (r .1))
   two-same (u ∷ v ∷ w ∷ ws) c e = absent e
 
   pub two-words : WordsAlike (twoWords f g) (twoWords f′ g′)

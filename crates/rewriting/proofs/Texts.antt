@@ -32,7 +32,7 @@ use Rattle.layout.specs.SubgraphText.{subgraphKind, subgraphHeader, subgraphSiz
 use Rattle.layout.specs.Rewrite.{lineAnew, textAnew}
 use Rattle.patterns.proofs.Prices.{rangedLayout, AlsoIn, numbers-alike, old-is-new}
 use Rattle.rewriting.proofs.Anew.{line-words, line-kept, text-length}
-use Rattle.rewriting.proofs.Kept.{naturals, integers, WordsAlike, one-word, two-words, three-words, Follows, read-anew, read-same}
+use Rattle.rewriting.proofs.Kept.{kept-naturals, kept-integers, WordsAlike, one-word, two-words, three-words, Follows, read-anew, read-same}
 
 -- ---- a header line begins as a comment does
 
@@ -105,16 +105,16 @@ mapped-words {A} {B} k {f} {g} W = record {
     taken (some a) b e = (a, refl, e)
 
 edges-alike : (field : Field) → WordsAlike (edgeOn Old field) (edgeOn New field)
-edges-alike Field.Integer = three-words naturals naturals integers
-edges-alike Field.Pattern = mapped-words (λ e. (e .0, e .1, pos 0)) (two-words naturals naturals)
+edges-alike Field.Integer = three-words kept-naturals kept-naturals kept-integers
+edges-alike Field.Pattern = mapped-words (λ e. (e .0, e .1, pos 0)) (two-words kept-naturals kept-naturals)
 
 pub graph-follows : (field : Field) → Follows (graphLayout Old field) (graphLayout New field)
 graph-follows field = record {
   header = λ l. refl;
   headed = headed;
-  size = λ kind l b e. line-anew (three-words naturals naturals naturals) (graphSizes kind) b stops-not l e;
+  size = λ kind l b e. line-anew (three-words kept-naturals kept-naturals kept-naturals) (graphSizes kind) b stops-not l e;
   later = λ b l c e. line-anew (edges-alike field) (graphEdge b) c stops-not l e;
-  sizeSame = λ kind l b e. line-same (three-words naturals naturals naturals) (graphSizes kind) b stops-not l e;
+  sizeSame = λ kind l b e. line-same (three-words kept-naturals kept-naturals kept-naturals) (graphSizes kind) b stops-not l e;
   laterSame = λ b l c e. line-same (edges-alike field) (graphEdge b) c stops-not l e;
   more = λ b. refl;
   result = λ b. refl;
@@ -130,10 +130,10 @@ pub numbers-follow : (ranges : Rules) (what : Numbers) (count : ℕ) → Follows
 numbers-follow ranges what count = record {
   header = λ l. refl;
   headed = headed;
-  size = λ h l b e. line-anew (two-words naturals naturals) (numberSizes count) b stops-not l e;
-  later = λ zs l c e. line-anew (one-word integers) (numberValue ranges what zs) c stops-not l e;
-  sizeSame = λ h l b e. line-same (two-words naturals naturals) (numberSizes count) b stops-not l e;
-  laterSame = λ zs l c e. line-same (one-word integers) (numberValue ranges what zs) c stops-not l e;
+  size = λ h l b e. line-anew (two-words kept-naturals kept-naturals) (numberSizes count) b stops-not l e;
+  later = λ zs l c e. line-anew (one-word kept-integers) (numberValue ranges what zs) c stops-not l e;
+  sizeSame = λ h l b e. line-same (two-words kept-naturals kept-naturals) (numberSizes count) b stops-not l e;
+  laterSame = λ zs l c e. line-same (one-word kept-integers) (numberValue ranges what zs) c stops-not l e;
   more = λ b. refl;
   result = λ b. refl;
 }
@@ -151,10 +151,10 @@ pub subgraph-follows : (g : Graph) → Follows (subgraphLayout Old g) (subgraphL
 subgraph-follows g = record {
   header = λ l. refl;
   headed = λ l h e. headed l (subgraphKind l) refl h e;
-  size = λ h l b e. line-anew (three-words naturals naturals naturals) (subgraphSizes g) b stops-not l e;
-  later = λ x l c e. line-anew (two-words naturals naturals) (subgraphEdge g x) c stops-not l e;
-  sizeSame = λ h l b e. line-same (three-words naturals naturals naturals) (subgraphSizes g) b stops-not l e;
-  laterSame = λ x l c e. line-same (two-words naturals naturals) (subgraphEdge g x) c stops-not l e;
+  size = λ h l b e. line-anew (three-words kept-naturals kept-naturals kept-naturals) (subgraphSizes g) b stops-not l e;
+  later = λ x l c e. line-anew (two-words kept-naturals kept-naturals) (subgraphEdge g x) c stops-not l e;
+  sizeSame = λ h l b e. line-same (three-words kept-naturals kept-naturals kept-naturals) (subgraphSizes g) b stops-not l e;
+  laterSame = λ x l c e. line-same (two-words kept-naturals kept-naturals) (subgraphEdge g x) c stops-not l e;
   more = λ b. refl;
   result = λ b. refl;
 }

@@ -5,15 +5,16 @@ use mathlib.Core.Logic.{⊎-elim}
 use mathlib.Core.List.{List}
 use native.Mathlib.Omega.{arith}
 use Rattle.graph.specs.Graph.{Graph, vertices, firstEnd}
-use Rattle.tree.specs.Method.{level, topPrice, topValue, value, Solvable}
-use Rattle.tree.specs.Tree.{slack}
-use Rattle.tree.specs.Front.{nearExit}
-use Rattle.tree.proofs.Tests.{if-less, if-not-less}
-use Rattle.tree.proofs.Solvable.{rows-in, first-to, value-most}
-use Rattle.tree.proofs.Leading.{lt-or-ge, Back, back, slack-back}
-use Rattle.tree.proofs.Grow.{last-in}
-use Rattle.scan.specs.declared.Front.{Front}
-use Rattle.scan.specs.Scan.{Spanned, listStop, Reached, Scanning, ColumnScan}
+use Rattle.method.specs.Method.{level, topPrice, topValue, value, Solvable}
+use Rattle.method.specs.Tree.{slack}
+use Rattle.method.specs.Front.{nearExit}
+use Rattle.method.proofs.Tests.{if-less, if-not-less}
+use Rattle.method.proofs.Solvable.{rows-in, first-to, value-most}
+use Rattle.method.proofs.Leading.{lt-or-ge, Back, back, slack-back}
+use Rattle.method.proofs.Grow.{last-in}
+use Rattle.reach.specs.declared.Front.{Front}
+use Rattle.reach.specs.Reach.{ReachedBy}
+use Rattle.scan.specs.Scan.{Spanned, listStop, Scanning, ColumnScan}
 use Rattle.scan.proofs.Looking.{looked-at}
 
 module _ {g : Graph} {price used least : ℕ → ℕ} {label₀ dist₀ order₀ label dist order : List ℕ} {f₀ f : Front} {edge : ℕ → ℕ} {start stop k : ℕ}
@@ -52,11 +53,11 @@ module _ {g : Graph} {price used least : ℕ → ℕ} {label₀ dist₀ order₀
   pub ends-small : {e v : ℕ} → e ≡ edge k → v ≡ firstEnd g e → price v + price u ≤ 2 * topPrice
   ends-small i j = omega (arith, c .good .high _ (end-in i j), c .good .high u (omega (arith, same .0, last-in (s .state))))
 
-  pub ends-fit : {e v worth : ℕ} → e ≡ edge k → v ≡ firstEnd g e → worth ≡ value g e → price v + price u ≤ worth
+  pub ends-fit : {e v raised : ℕ} → e ≡ edge k → v ≡ firstEnd g e → raised ≡ value g e → price v + price u ≤ raised
   ends-fit i j l = omega (arith, prices-fit, l, ap (value g) i, ap price (j ∙ ap (firstEnd g) i))
 
-  pub worth-small : {e worth : ℕ} → e ≡ edge k → worth ≡ value g e → worth ≤ topValue
-  worth-small i l = omega (arith, l, ap (value g) i, value-most net (edge k) edge-in)
+  pub raised-small : {e raised : ℕ} → e ≡ edge k → raised ≡ value g e → raised ≤ topValue
+  raised-small i l = omega (arith, l, ap (value g) i, value-most net (edge k) edge-in)
 
   -- What reaching its end asks for.
   pub may-lose : {e v : ℕ} → e ≡ edge k → v ≡ firstEnd g e → (least v < used v → level ≤ price v) × (price v ≤ topPrice)
@@ -67,13 +68,13 @@ module _ {g : Graph} {price used least : ℕ → ℕ} {label₀ dist₀ order₀
       )
 
   -- One edge more, under the names that it and its end have.
-  pub turned : {e v h worth : ℕ} {f′ : Front} {label′ dist′ order′ : List ℕ} → e ≡ edge k → v ≡ firstEnd g e → worth ≡ value g e → h ≡ d + worth - (price v + price u) →
-      Reached (nearExit (price v) (used v) (least v)) v h e f f′ label dist order label′ dist′ order′
+  pub turned : {e v h raised : ℕ} {f′ : Front} {label′ dist′ order′ : List ℕ} → e ≡ edge k → v ≡ firstEnd g e → raised ≡ value g e → h ≡ d + raised - (price v + price u) →
+      ReachedBy (nearExit (price v) (used v) (least v)) v h e f f′ label dist order label′ dist′ order′
       → Scanning g (c .x) price (c .exit) label′ dist′ order′ (c .root) (c .count) f′ edge start (k + 1)
-  turned {e} {v} {h} {worth} {f′} {label′} {dist′} {order′} i j l m r =
+  turned {e} {v} {h} {raised} {f′} {label′} {dist′} {order′} i j l m r =
       let at : v ≡ w = j ∙ ap (firstEnd g) i in
-      let here = subst (λ z. Reached (nearExit (price z) (used z) (least z)) z h (edge k) f f′ label dist order label′ dist′ order′) at
-      (subst (λ z. Reached (nearExit (price v) (used v) (least v)) v h z f f′ label dist order label′ dist′ order′) i r) in
+      let here = subst (λ z. ReachedBy (nearExit (price z) (used z) (least z)) z h (edge k) f f′ label dist order label′ dist′ order′) at
+      (subst (λ z. ReachedBy (nearExit (price v) (used v) (least v)) v h z f f′ label dist order label′ dist′ order′) i r) in
       looked-at net s head-in here edge-in (leading .from ∙ c .column k a b ∙ sym (same .0)) (leading .to) (leads-to (omega (arith, m, l, ap (value g) i, ap price at)))
       (λ n. sym (c .exits w (first-to net (edge k) edge-in) n))
 

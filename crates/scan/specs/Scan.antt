@@ -1,18 +1,18 @@
--- Where the list of a vertex stands, what looking at an edge does, and what the scan of a vertex keeps.
+-- Where the list of a vertex stands, and what the scan of a vertex keeps.
 use Prim.Native.Nat.{ℕ, _+_, _≤_, _<_}
 use mathlib.Core.Path.{_≡_}
-use mathlib.Core.Logic.{_≢_, _⊎_}
+use mathlib.Core.Logic.{_≢_}
 use mathlib.Core.Bool.{cond}
 use mathlib.Core.List.{List}
-use lib.Dec.{eqb, ltb}
-use lib.ListN.{length, set}
+use lib.Dec.{ltb}
+use lib.ListN.{length}
 use Rattle.graph.specs.Limits.{mostVertices}
 use Rattle.graph.specs.Graph.{Graph, vertices, secondEnd}
 use Rattle.graph.specs.Subgraph.{markAt, degree}
-use Rattle.tree.specs.Method.{Good}
-use Rattle.tree.specs.Tree.{entries}
-use Rattle.tree.specs.Front.{far, nearExit, State, Looked}
-use Rattle.scan.specs.declared.Front.{Front}
+use Rattle.method.specs.Method.{Good}
+use Rattle.method.specs.Tree.{entries}
+use Rattle.method.specs.Front.{nearExit, SearchState, Looked}
+use Rattle.reach.specs.declared.Front.{Front}
 
 -- The front once this vertex is settled, at this distance.
 abbrev pub settledAt : Front → ℕ → ℕ → Front
@@ -30,27 +30,9 @@ listStart rows start u = cond (ltb u rows) 0 (start u)
 abbrev pub listStop : ℕ → (ℕ → ℕ) → (ℕ → ℕ) → ℕ → ℕ
 listStop rows start used u = cond (ltb u rows) 0 (start u + used u)
 
--- How many vertices are reached once vertex w is, which had this distance.
-abbrev pub withReached : ℕ → ℕ → ℕ
-withReached dist reached = reached + cond (eqb dist far) 1 0
-
--- The front with another goal and end, and as many vertices reached.
-abbrev pub advanced : Front → ℕ → ℕ → ℕ → Front
-advanced f goal end reached = record { goal = goal; end = end; reached = reached; vertex = f .vertex; distance = f .distance }
-
--- Edge e leads to vertex w at distance h, from where a path ends at this exit. Nothing changes, but for a number after the list of those reached, unless this
--- is nearer than w was and than the goal: then w is reached by e, and is the end if with its exit that is nearer still.
-pub data Reached (exit w h e : ℕ) (f f′ : Front) (label dist order label′ dist′ order′ : List ℕ) : Type 0 where
-  passes : (entries dist w ≤ h) ⊎ (f .goal ≤ h) → dist′ ≡ dist → label′ ≡ label → order′ ≡ set order (f .reached) w →
-      f′ ≡ advanced f (f .goal) (f .end) (f .reached) → Reached exit w h e f f′ label dist order label′ dist′ order′
-  reaches : h < entries dist w → h < f .goal → f .goal ≤ h + exit → dist′ ≡ set dist w h → label′ ≡ set label w e → order′ ≡ set order (f .reached) w →
-      f′ ≡ advanced f (f .goal) (f .end) (withReached (entries dist w) (f .reached)) → Reached exit w h e f f′ label dist order label′ dist′ order′
-  ends : h < entries dist w → h + exit < f .goal → dist′ ≡ set dist w h → label′ ≡ set label w e → order′ ≡ set order (f .reached) w →
-      f′ ≡ advanced f (h + exit) w (withReached (entries dist w) (f .reached)) → Reached exit w h e f f′ label dist order label′ dist′ order′
-
 -- What the scan of the vertex settled last keeps: the edges that a list holds at the places from start to before k were looked at.
 pub record Scanning (g : Graph) (x : List ℕ) (price exit : ℕ → ℕ) (label dist order : List ℕ) (root count : ℕ) (f : Front) (edge : ℕ → ℕ) (start k : ℕ) : Type 0 where
-  pub state : State g x price exit (entries dist) (entries label) (entries order) root count (f .reached) (f .distance) (f .goal) (f .end) (f .vertex)
+  pub state : SearchState g x price exit (entries dist) (entries label) (entries order) root count (f .reached) (f .distance) (f .goal) (f .end) (f .vertex)
   pub looked : Looked g x price (entries dist) (f .goal) (f .vertex) edge start k
   pub label-long : length label ≡ mostVertices
   pub dist-long : length dist ≡ mostVertices

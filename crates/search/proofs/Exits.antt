@@ -6,12 +6,12 @@ use mathlib.Core.List.{List}
 use native.Mathlib.Omega.{arith}
 use Rattle.graph.specs.Graph.{Graph, vertices}
 use Rattle.graph.specs.Subgraph.{degree}
-use Rattle.tree.specs.Method.{level, Solvable, Good, Rooted}
-use Rattle.tree.specs.Front.{far, shut, nearExit, farExit, rootExit, Exits}
-use Rattle.tree.specs.Lists.{Degrees}
-use Rattle.tree.proofs.Tests.{if-less, if-not-less}
-use Rattle.tree.proofs.Solvable.{rows-in}
-use Rattle.tree.proofs.Leading.{lt-or-ge, if-same, if-other}
+use Rattle.method.specs.Method.{level, Solvable, Good, Rooted}
+use Rattle.method.specs.Front.{far, shut, nearExit, farExit, rootExit, Exits}
+use Rattle.method.specs.Lists.{Degrees}
+use Rattle.method.proofs.Tests.{if-less, if-not-less}
+use Rattle.method.proofs.Solvable.{rows-in}
+use Rattle.method.proofs.Leading.{lt-or-ge, if-same, if-other}
 use Rattle.search.specs.Search.{exitOf}
 
 module _ (rows : ℕ) (price used least most : ℕ → ℕ) (root : ℕ) where

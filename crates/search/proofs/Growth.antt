@@ -13,25 +13,27 @@ use Rattle.graph.specs.Graph.{Graph, vertices, firstEnd, secondEnd}
 use Rattle.graph.specs.Subgraph.{markAt, degree}
 use Rattle.graph.specs.Index.{offset}
 use Rattle.graph.proofs.Index.{offset-more}
-use Rattle.tree.specs.declared.Tree.{Tree}
-use Rattle.tree.specs.Method.{level, topPrice, topValue, cost, Solvable, NoneMeets, Good}
-use Rattle.tree.specs.Tree.{entries, tail, Ended}
-use Rattle.tree.specs.Front.{far, shut, nearExit, farExit, Exits, State, Bounded, Looked, Leaving, SearchGrown, AtEnd, Shifted}
-use Rattle.tree.specs.Lists.{starts, stops, leasts, mosts, edges, heads, values, keeps, Arc, Given, startIn, Among, Item}
-use Rattle.tree.proofs.Tests.{if-less, if-not-less}
-use Rattle.tree.proofs.Solvable.{few, small, rows-in, first-to, second-from, second-to, value-most}
-use Rattle.tree.proofs.Leading.{lt-or-ge, Out, Back, arc as arc-cases, leads, slack-out}
-use Rattle.tree.proofs.Keep.{left-out}
-use Rattle.tree.proofs.Grow.{start, last-in, last-settled, not-more, entry-in, entry-once, entry-settled}
-use Rattle.tree.proofs.Settle.{Swap, left-early, left-last, next}
-use Rattle.tree.proofs.Lists.{columns, among-somewhere}
-use Rattle.tree.proofs.Left as Leaves
-use Rattle.tree.proofs.Finish.{may-fall, finish}
-use Rattle.tree.proofs.Places.{offset-rows}
+use Rattle.method.specs.declared.Tree.{Tree}
+use Rattle.method.specs.Method.{level, topPrice, topValue, cost, Solvable, NoneMeets, Good}
+use Rattle.method.specs.Tree.{entries, tail, Ended}
+use Rattle.method.specs.Front.{far, shut, nearExit, farExit, Exits, SearchState, Relaxed, Looked, Leaving, SearchGrown, AtEnd, Shifted}
+use Rattle.method.specs.Lists.{starts, stops, leasts, mosts, edges, heads, values, keeps, Arc, Given, startIn, Among, Item}
+use Rattle.method.proofs.Tests.{if-less, if-not-less}
+use Rattle.method.proofs.Solvable.{few, small, rows-in, first-to, second-from, second-to, value-most}
+use Rattle.method.proofs.Leading.{lt-or-ge, Out, Back, arc as arc-cases, leads, slack-out}
+use Rattle.method.proofs.Keep.{left-out}
+use Rattle.method.proofs.Grow.{start, last-in, last-settled, not-more, entry-in, entry-once, entry-settled}
+use Rattle.method.proofs.Settle.{Swap, left-early, left-last, next}
+use Rattle.method.proofs.Lists.{columns, among-somewhere}
+use Rattle.method.proofs.Left as Leaves
+use Rattle.method.proofs.Finish.{may-fall, finish}
+use Rattle.method.proofs.Places.{offset-rows}
 use Rattle.kilter.proofs.Stuck.{none-meets}
-use Rattle.scan.specs.declared.Front.{Front}
-use Rattle.scan.specs.Scan.{settledAt, listStart, listStop, Reached, Scanning, ColumnScan}
-use Rattle.scan.proofs.Looking.{roomy, looked-at, skipped, stays}
+use Rattle.reach.specs.declared.Front.{Front}
+use Rattle.reach.specs.Reach.{ReachedBy}
+use Rattle.scan.specs.Scan.{settledAt, listStart, listStop, Scanning, ColumnScan}
+use Rattle.reach.proofs.Picking.{stays}
+use Rattle.scan.proofs.Looking.{roomy, looked-at, skipped}
 use Rattle.dual_step.specs.Step.{Searchable, NearestAt, Settles, Movable}
 use Rattle.search.proofs.Spans as Spans
 use Rattle.search.specs.Search.{Known}
@@ -226,7 +228,7 @@ module _ {g : Graph} {arc table : List ℕ} {places : ℕ} {x : List ℕ} {price
 
     -- After the look.
     pub turned : {f′ : Front} {label′ dist′ order′ : List ℕ} →
-        Reached (farExit (price head) (used head) (mosts table head)) head (base + price head + markAt x edge * shut - values arc k) edge f f′ label dist order label′ dist′ order′
+        ReachedBy (farExit (price head) (used head) (mosts table head)) head (base + price head + markAt x edge * shut - values arc k) edge f f′ label dist order label′ dist′ order′
         → RowScan g arc table x price exit list label′ dist′ order′ root count f′ base last (k + 1)
     turned {f′} {label′} {dist′} {order′} c = record {
       scan = subst (λ v. Scanning g x price exit label′ dist′ order′ root count f′ (edges arc) (starts table v) (k + 1)) (sym (same .0))
@@ -271,42 +273,42 @@ module _ {g : Graph} {arc table : List ℕ} {places : ℕ} {x : List ℕ} {price
 
   -- All edges from the vertex were looked at.
   module _ (root-near : root < g .rows) (ways : Exits g (leasts table) (mosts table) x price root exit) (l : last ≤ k) where
-    abbrev s : State g x price exit (entries dist) (entries label) (entries order) root count (f .reached) (f .distance) (f .goal) (f .end) u
+    abbrev s : SearchState g x price exit (entries dist) (entries label) (entries order) root count (f .reached) (f .distance) (f .goal) (f .end) u
     s = r .scan .state
 
-    loose-looked : (q : ℕ) → q < g .edges → Out g x q → firstEnd g q ≡ u → Bounded g x price (entries dist) (f .goal) q
+    loose-looked : (q : ℕ) → q < g .edges → Out g x q → firstEnd g q ≡ u → Relaxed g x price (entries dist) (f .goal) q
     loose-looked q b o t = go (keeps g (leasts table) q) refl
       where
         row : u < g .rows
         row = omega (arith, t, first-to net q b)
 
-        go : (y : Bool) → keeps g (leasts table) q ≡ y → Bounded g x price (entries dist) (f .goal) q
+        go : (y : Bool) → keeps g (leasts table) q ≡ y → Relaxed g x price (entries dist) (f .goal) q
         go true y =
             let j = given .kept .all q b (first-to net q b) y in
             let low : starts table u ≤ j .0 = omega (arith, given .kept .starts u row, ap (offset g) t, j .1) in
             let high : j .0 < k = omega (arith, last-row row, ap (stops table) t, j .2) in
-            subst (λ e. Bounded g x price (entries dist) (f .goal) e) (j .3)
+            subst (λ e. Relaxed g x price (entries dist) (f .goal) e) (j .3)
             (r .scan .looked .each (j .0) low high (ap (tail g x) (j .3) ∙ o .from ∙ t))
         go false y =
             let seen : 0 < s .spot (firstEnd g q) = omega (arith, ap (s .spot) t, last-settled s .seen) in
             inr (omega (arith, ap (entries dist) (o .from), left-out net good q b (o .mark) y ways (s .dists) seen))
 
-    taken-looked : (q : ℕ) → q < g .edges → Back g x q → secondEnd g q ≡ u → Bounded g x price (entries dist) (f .goal) q
+    taken-looked : (q : ℕ) → q < g .edges → Back g x q → secondEnd g q ≡ u → Relaxed g x price (entries dist) (f .goal) q
     taken-looked q b o t =
         let a : g .rows ≤ u = omega (arith, t, second-from net q b) in
         let c = h .between .lists .held q b (o .mark) in
         let j = h .place q in
         let m = subst (λ v. Among g (degree g x) v j) t (c .among) in
-        subst (λ e. Bounded g x price (entries dist) (f .goal) e) (c .is)
+        subst (λ e. Relaxed g x price (entries dist) (f .goal) e) (c .is)
         (r .back a .each j (m .from) (m .to) (ap (tail g x) (c .is) ∙ o .from ∙ t))
 
-    pub looked-all : (q : ℕ) → q < g .edges → tail g x q ≡ u → Bounded g x price (entries dist) (f .goal) q
+    pub looked-all : (q : ℕ) → q < g .edges → tail g x q ≡ u → Relaxed g x price (entries dist) (f .goal) q
     looked-all q b t = ⊎-elim (λ o. loose-looked q b o (sym (o .from) ∙ t)) (λ o. taken-looked q b o (sym (o .from) ∙ t)) (leads good q b)
 
 -- ---- the next vertex, and the end
 
 -- The search is left, and the arrays have their lengths still.
-pub record Left (g : Graph) (x : List ℕ) (price exit : ℕ → ℕ) (label dist order : List ℕ) (root count goal end : ℕ) : Type 0 where
+pub record LeftOff (g : Graph) (x : List ℕ) (price exit : ℕ → ℕ) (label dist order : List ℕ) (root count goal end : ℕ) : Type 0 where
   pub leaving : Leaving g x price exit (entries dist) (entries label) (entries order) root count goal end
   pub label-long : length label ≡ mostVertices
   pub order-long : length order ≡ mostVertices + 1
@@ -314,21 +316,21 @@ pub record Left (g : Graph) (x : List ℕ) (price exit : ℕ → ℕ) (label dis
 -- An end as near as the vertex settled last.
 pub ends-early : {g : Graph} {arc table x : List ℕ} {price exit list : ℕ → ℕ} {label dist order : List ℕ} {root count : ℕ} {f : Front} {base last k : ℕ}
     → RowScan g arc table x price exit list label dist order root count f base last k → f .goal ≡ f .distance →
-    Left g x price exit label dist order root count (f .goal) (f .end)
+    LeftOff g x price exit label dist order root count (f .goal) (f .end)
 ends-early r e = record { leaving = left-early (r .scan .state) e; label-long = r .scan .label-long; order-long = r .scan .order-long }
 
 module _ {g : Graph} {arc table x : List ℕ} {price exit list : ℕ → ℕ} {label dist order : List ℕ} {root count : ℕ} {f : Front} {base last k : ℕ}
     (net : Solvable g) (r : RowScan g arc table x price exit list label dist order root count f base last k) where
-  abbrev now-at : State g x price exit (entries dist) (entries label) (entries order) root count (f .reached) (f .distance) (f .goal) (f .end) (f .vertex)
+  abbrev now-at : SearchState g x price exit (entries dist) (entries label) (entries order) root count (f .reached) (f .distance) (f .goal) (f .end) (f .vertex)
   now-at = r .scan .state
 
   pub searchable : Searchable (entries order) count (f .reached)
   searchable = record { few = roomy net (r .scan); inside = λ i a b. omega (arith, entry-in now-at i b, few net) }
 
   module _ {place : ℕ} (n : NearestAt (entries dist) (entries order) count (f .reached) (f .goal) place) where
-    module _ (all : (q : ℕ) → q < g .edges → tail g x q ≡ f .vertex → Bounded g x price (entries dist) (f .goal) q) where
+    module _ (all : (q : ℕ) → q < g .edges → tail g x q ≡ f .vertex → Relaxed g x price (entries dist) (f .goal) q) where
       -- No open vertex is nearer than the end.
-      pub ends-last : place ≡ f .reached → Left g x price exit label dist order root count (f .goal) (f .end)
+      pub ends-last : place ≡ f .reached → LeftOff g x price exit label dist order root count (f .goal) (f .end)
       ends-last e = record {
         leaving = left-last now-at all
             (λ i a b. ⊎-elim (λ h. omega (arith, n .nearest .low i a b, h .1)) (λ h. absurd (omega (arith, e, h .1))) (n .nearest .found));
@@ -369,7 +371,7 @@ module _ {g : Graph} {arc table x : List ℕ} {price exit list : ℕ → ℕ} {l
         order-long′ = ap length (t .order-is) ∙ simp length-set (r .scan .order-long)
 
         -- It is settled.
-        pub grown : {edge′ : ℕ → ℕ} → ((q : ℕ) → q < g .edges → tail g x q ≡ f .vertex → Bounded g x price (entries dist) (f .goal) q) →
+        pub grown : {edge′ : ℕ → ℕ} → ((q : ℕ) → q < g .edges → tail g x q ≡ f .vertex → Relaxed g x price (entries dist) (f .goal) q) →
             Scanning g x price exit label dist order′ root (count + 1)
             (settledAt f v (entries dist v)) edge′ 0 0
         grown all = record {
@@ -387,14 +389,14 @@ front-as e s = rw e s
 
 -- What is left, under the names that it has then.
 pub left-as : {g : Graph} {x : List ℕ} {price exit : ℕ → ℕ} {dist order dist′ order′ : List ℕ} {t t′ : Tree} {root count end : ℕ} {f f′ : Front} → order′ ≡ order →
-    f′ ≡ f → dist′ ≡ dist → t′ ≡ t → end ≡ f .end → Left g x price exit (t .label) dist order root count (f .goal) (f .end)
-    → Left g x price exit (t′ .label) dist′ order′ root count (f′ .goal) end
+    f′ ≡ f → dist′ ≡ dist → t′ ≡ t → end ≡ f .end → LeftOff g x price exit (t .label) dist order root count (f .goal) (f .end)
+    → LeftOff g x price exit (t′ .label) dist′ order′ root count (f′ .goal) end
 left-as {g} {x} {price} {exit} {dist} {order} {dist′} {order′} {t} {t′} {root} {count} {end} {f} {f′} a b c d e l =
-    subst (λ z. Left g x price exit (t′ .label) dist′ z root count (f′ .goal) end) (sym a)
-    (subst (λ (z : Front). Left g x price exit (t′ .label) dist′ order root count (z .goal) end) (sym b)
-    (subst (λ z. Left g x price exit (t′ .label) z order root count (f .goal) end) (sym c)
-    (subst (λ (z : Tree). Left g x price exit (z .label) dist order root count (f .goal) end) (sym d)
-    (subst (λ z. Left g x price exit (t .label) dist order root count (f .goal) z) (sym e) l))))
+    subst (λ z. LeftOff g x price exit (t′ .label) dist′ z root count (f′ .goal) end) (sym a)
+    (subst (λ (z : Front). LeftOff g x price exit (t′ .label) dist′ order root count (z .goal) end) (sym b)
+    (subst (λ z. LeftOff g x price exit (t′ .label) z order root count (f .goal) end) (sym c)
+    (subst (λ (z : Tree). LeftOff g x price exit (z .label) dist order root count (f .goal) end) (sym d)
+    (subst (λ z. LeftOff g x price exit (t .label) dist order root count (f .goal) z) (sym e) l))))
 
 -- ---- the end
 

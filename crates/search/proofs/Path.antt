@@ -14,14 +14,14 @@ use Rattle.graph.specs.Limits.{mostVertices, greatestBound}
 use Rattle.graph.specs.declared.Shape.{Shape}
 use Rattle.graph.specs.Graph.{Graph, graphOf, vertices}
 use Rattle.graph.specs.Subgraph.{degree}
-use Rattle.checks.proofs.Counting.{add-at}
-use Rattle.tree.specs.Method.{Solvable, Labels, Augmented, Sought}
-use Rattle.tree.specs.Tree.{entries, naturals, Ended}
-use Rattle.tree.specs.Lists.{starts, nowhere, Listing, Given, Between}
-use Rattle.tree.proofs.Solvable.{few, rows-in}
-use Rattle.tree.proofs.Leading.{lt-or-ge}
-use Rattle.tree.proofs.End.{sought}
-use Rattle.tree.proofs.Lists.{ends-second, degree-less, unweigh}
+use Rattle.graph.proofs.Counting.{add-at}
+use Rattle.method.specs.Method.{Solvable, Labels, Augmented, Sought}
+use Rattle.method.specs.Tree.{entries, naturals, Ended}
+use Rattle.method.specs.Lists.{starts, nowhere, Listing, Given, Between}
+use Rattle.method.proofs.Solvable.{few, rows-in}
+use Rattle.method.proofs.Leading.{lt-or-ge}
+use Rattle.method.proofs.End.{sought}
+use Rattle.method.proofs.Lists.{ends-second, degree-less, unweigh}
 use Rattle.scan.specs.Scan.{listStop}
 use Rattle.augment.specs.Augment.{Walkable, Ranked, Relistable}
 use Rattle.search.proofs.Spans as Spans

@@ -6,10 +6,10 @@ use native.Mathlib.Omega.{arith}
 use Rattle.graph.specs.Graph.{Graph, vertices}
 use Rattle.graph.specs.Subgraph.{degree}
 use Rattle.graph.proofs.Index.{offset-more, offset-next}
-use Rattle.tree.specs.Lists.{starts, Given, startIn, Between}
-use Rattle.tree.proofs.Tests.{if-not-less}
-use Rattle.tree.proofs.Solvable.{few}
-use Rattle.tree.proofs.Lists.{columns}
+use Rattle.method.specs.Lists.{starts, Given, startIn, Between}
+use Rattle.method.proofs.Tests.{if-not-less}
+use Rattle.method.proofs.Solvable.{few}
+use Rattle.method.proofs.Lists.{columns}
 use Rattle.scan.specs.Scan.{Spanned, listStart, listStop}
 
 module _ {g : Graph} {arc table : List ℕ} {places : ℕ} {least most : ℕ → ℕ} {x : List ℕ} {price used list place : ℕ → ℕ} {u : ℕ}

@@ -7,10 +7,10 @@ use lib.Dec.{eqb, ltb}
 use Rattle.integers.specs.Sum.{is}
 use Rattle.graph.specs.Limits.{mostVertices, greatestBound}
 use Rattle.graph.specs.Graph.{Graph}
-use Rattle.tree.specs.Method.{NoneMeets, Sought}
-use Rattle.tree.specs.Tree.{Ended}
-use Rattle.tree.specs.Front.{nearExit, farExit, rootExit}
-use Rattle.tree.specs.Lists.{Between}
+use Rattle.method.specs.Method.{NoneMeets, Sought}
+use Rattle.method.specs.Tree.{Ended}
+use Rattle.method.specs.Front.{nearExit, farExit, rootExit}
+use Rattle.method.specs.Lists.{Between}
 
 -- What is kept between two searches, with some places of the chosen edges in the lists.
 pub record Known (g : Graph) (least most : ℕ → ℕ) (x : List ℕ) (price used list : ℕ → ℕ) : Type 0 where

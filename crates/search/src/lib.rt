@@ -2,27 +2,27 @@
 use graph::MOST_EDGES;
 use graph::MOST_VERTICES;
 use graph::Shape;
-use scan::Front;
-use tree::FAR;
-use tree::HEADS;
-use tree::LEASTS;
-use tree::LEVEL;
-use tree::MOST_ARCS;
-use tree::MOST_LISTED;
-use tree::MOST_TABLE;
-use tree::STOPS;
-use tree::Tree;
-use tree::VALUES;
-use tree::pick;
+use integers::pick;
+use method::FAR;
+use method::HEADS;
+use method::LEASTS;
+use method::LEVEL;
+use method::MOST_ARCS;
+use method::MOST_LISTED;
+use method::MOST_TABLE;
+use method::STOPS;
+use method::Tree;
+use method::VALUES;
+use reach::Front;
 ghost use Prim.Native.Nat.{_+_, _≤_, _<_};
 ghost use mathlib.Core.Path.{_≡_};
 ghost use lib.ListN.{length};
 ghost use Rattle.graph.specs.Limits.{mostVertices};
 ghost use Rattle.graph.specs.Graph.{graphOf};
-ghost use Rattle.tree.specs.Method.{level, topPrice, Rooted};
-ghost use Rattle.tree.specs.Tree.{entries, naturals};
-ghost use Rattle.tree.specs.Front.{far, rootExit};
-ghost use Rattle.tree.specs.Lists.{leasts, mosts, Given, Between, Arrays};
+ghost use Rattle.method.specs.Method.{level, topPrice, Rooted};
+ghost use Rattle.method.specs.Tree.{entries, naturals};
+ghost use Rattle.method.specs.Front.{far, rootExit};
+ghost use Rattle.method.specs.Lists.{leasts, mosts, Given, Between, Arrays};
 ghost use Rattle.search.specs.Search.{Known, Finds, Countable, PathCounted, Searched};
 
 // How far the root is from a way out: it may keep its degree once it has its least.
@@ -67,7 +67,7 @@ fn find_end(
     };
     let mut distance = [FAR; MOST_VERTICES];
     distance[at] = 0;
-    let mut t = tree::unlabelled();
+    let mut t = method::unlabelled();
     let mut count = 1u32;
     let end = 'search: loop {
         f = scan::scan_column(
@@ -91,7 +91,7 @@ fn find_end(
         while k < last {
             let at = k as usize;
             let e = arc[at];
-            f = scan::look(
+            f = reach::look(
                 price,
                 used,
                 table,

@@ -1,12 +1,12 @@
 // The rules of odd sets (groups), their load and capacity, and which edges they cover.
 // The words `insides`, 2 a set, mark vertices, and `markings`, 16 a set, mark edges. Odd sets count by k.
 // A contract leaves out of the graph and of the odd sets, as [], what its definition does not look at.
-use checks::Ends;
-use checks::Lowest;
 use graph::EDGE_WORDS;
+use graph::Ends;
 use graph::MOST_SETS;
 use graph::Shape;
 use graph::VERTEX_WORDS;
+use lowest::Lowest;
 ghost use Prim.Native.Nat.{ℕ, _+_, _*_, _≤_, _<_, min};
 ghost use mathlib.Core.Path.{_≡_};
 ghost use mathlib.Core.Bool.{not, _&&_, _||_};
@@ -23,7 +23,7 @@ ghost use Rattle.graph.specs.Refusal.{lowest};
 ghost use Rattle.graph.specs.Passed.{Sound, Bounded, MarksHold};
 ghost use Rattle.dual.specs.Sets.{oddSetsOf, one, nothingAbove, hasVertex, oneEndInside, load};
 ghost use Rattle.dual.specs.Gap.{chosenCovered};
-ghost use Rattle.checks.specs.Checks.{lowestSays};
+ghost use Rattle.lowest.specs.Lowest.{lowestSays};
 ghost use Rattle.sets.specs.Words.{isInside, isMarked, insideBy, coversBy, keepsRulesBy};
 
 // Whether vertex v is inside odd set k.
@@ -43,7 +43,7 @@ fn is_marked(markings: &[u64], k: usize, e: usize) -> bool
 }
 
 // A mark as a number.
-pub fn number(b: bool) -> u8
+pub fn as_number(b: bool) -> u8
     ensures { λ r. ⌜ (r ≡ one b) × (r ≤ 1) ⌝ }
 {
     if b { 1 } else { 0 }
@@ -56,7 +56,7 @@ fn ends_inside(ends: Ends, insides: &[u64], k: usize) -> u32
 {
     let first = is_inside(insides, k, ends.first);
     let second = is_inside(insides, k, ends.second);
-    number(first) as u32 + number(second) as u32
+    as_number(first) as u32 + as_number(second) as u32
 }
 
 // Whether odd set k covers edge e: it marks the edge, or both ends are inside.
@@ -88,7 +88,7 @@ fn nothing_above(s: Shape, insides: &[u64], markings: &[u64], k: usize) -> bool
     requires { ⌜ (vertexWords * k + vertexWords ≤ length (now insides)) × (edgeWords * k + edgeWords ≤ length (now markings)) ⌝ }
     ensures { λ r. ⌜ r ≡ nothingAbove (graphOf s [] [] []) (oddSetsOf (now (insides .entry)) (now (markings .entry))) k ⌝ }
 {
-    let n = checks::vertex_count(s);
+    let n = graph::vertex_count(s);
     if bits::any_from(insides, VERTEX_WORDS * k, VERTEX_WORDS, n) {
         return false;
     }
@@ -100,7 +100,7 @@ fn has_vertex(s: Shape, insides: &[u64], k: usize) -> bool
     requires { ⌜ (verticesIn s ≤ mostVertices) × (vertexWords * k + vertexWords ≤ length (now insides)) ⌝ }
     ensures { λ r. ⌜ r ≡ hasVertex (graphOf s [] [] []) (oddSetsOf (now (insides .entry)) []) k ⌝ }
 {
-    let n = checks::vertex_count(s) as usize;
+    let n = graph::vertex_count(s) as usize;
     let mut v = 0;
     while v < n {
         if is_inside(insides, k, v) {
@@ -128,7 +128,7 @@ fn one_end_inside(
     while e < row.len() {
         if edge_keeps(
             e,
-            checks::ends_of(s, row[e], column[e]),
+            graph::ends_of(s, row[e], column[e]),
             insides,
             markings,
             k,
@@ -160,7 +160,7 @@ fn bounds_inside(s: Shape, bound: &[i32], insides: &[u64], k: usize) -> u32
     requires { ⌜ vertexWords * k + vertexWords ≤ length (now insides) ⌝ }
     ensures { λ r. ⌜ (r ≡ sum (verticesIn s) (λ v. one (isInside (now (insides .entry)) k v) * up (boundAt (now (bound .entry)) v))) × (r ≤ greatestBound * mostVertices) ⌝ }
 {
-    let n = checks::vertex_count(s) as usize;
+    let n = graph::vertex_count(s) as usize;
     let mut total = 0;
     let mut v = 0;
     while v < n {
@@ -181,7 +181,7 @@ fn load_of(s: Shape, bound: &[i32], insides: &[u64], markings: &[u64], k: usize)
 }
 
 // The number of odd sets, or most where there are more.
-fn up_to(sets: u32, most: usize) -> usize
+fn at_most_sets(sets: u32, most: usize) -> usize
     ensures { λ r. ⌜ r ≡ min sets most ⌝ }
 {
     let count = sets as usize;
@@ -201,7 +201,7 @@ pub fn load_table(
     ensures { λ r. ⌜ ((k : ℕ) → k < min sets mostSets → (getD r k 0 ≡ load (graphOf s [] [] []) (now (bound .entry)) (oddSetsOf (now (insides .entry)) (now (markings .entry))) k) × (getD r k 0 ≤ greatestBound * mostVertices + mostEdges)) ⌝ }
 {
     let mut table = [0u32; MOST_SETS];
-    let count = up_to(sets, MOST_SETS);
+    let count = at_most_sets(sets, MOST_SETS);
     let mut k = 0;
     while k < count {
         table[k] = load_of(s, bound, insides, markings, k);
@@ -231,7 +231,7 @@ fn keeps_rules(
         return false;
     }
     let one_end = one_end_inside(s, row, column, insides, markings, k);
-    checks::both(one_end, load % 2 == 1)
+    integers::both(one_end, load % 2 == 1)
 }
 
 // Whether odd set k is one of the first 16 and keeps the rules.
@@ -269,7 +269,7 @@ pub fn lowest_set(
     requires { ⌜ (length (now insides) ≡ vertexWords * sets) × (length (now markings) ≡ edgeWords * sets) ⌝ }
     ensures { λ r. ⌜ lowestSays r ≡ lowest (min sets (mostSets + 1)) (λ k. ltb k mostSets && keepsRulesBy (graphOf s (now (row .entry)) (now (column .entry)) []) (oddSetsOf (now (insides .entry)) (now (markings .entry))) k (getD load k 0)) ⌝ }
 {
-    let count = up_to(sets, MOST_SETS + 1);
+    let count = at_most_sets(sets, MOST_SETS + 1);
     let mut k = 0;
     while k < count {
         if is_allowed(s, row, column, load, insides, markings, k) {
@@ -290,7 +290,7 @@ fn mark_covered(e: usize, ends: Ends, mark: u8, insides: &[u64], markings: &[u64
     if mark == 0 {
         return 0;
     }
-    number(covers_edge(e, ends, insides, markings, k)) as u32
+    as_number(covers_edge(e, ends, insides, markings, k)) as u32
 }
 
 // How many chosen edges odd set k covers.
@@ -310,7 +310,7 @@ fn covered_by(
     let mut total = 0;
     let mut e = 0;
     while e < chosen.len() {
-        let ends = checks::ends_of(s, row[e], column[e]);
+        let ends = graph::ends_of(s, row[e], column[e]);
         total += mark_covered(e, ends, chosen[e], insides, markings, k);
         e += 1;
     }

@@ -1,10 +1,9 @@
 // The program `solve`: reads sheet.mtx and limits.mtx from the working folder, and writes a plan of largest merit, or a refusal.
 // Its stored run is the worked example of document 01.
-use graph::LONGEST_TEXT;
-use graph::SUBGRAPH_BYTES;
+mod output;
 
-// One byte more than a text may have, so that a longer file is seen to be too long.
-const FILE_BYTES: usize = LONGEST_TEXT + 1;
+use files::FILE_BYTES;
+use graph::SUBGRAPH_BYTES;
 
 fn main() {
     let mut sheet = [0u8; FILE_BYTES];
@@ -12,6 +11,6 @@ fn main() {
     let mut limits = [0u8; FILE_BYTES];
     let l = files::read(b"limits.mtx", &mut limits);
     let mut out = [0u8; SUBGRAPH_BYTES];
-    let n = solve_writer::solve(&sheet[..s], &limits[..l], &mut out);
+    let n = output::solve_output(&sheet[..s], &limits[..l], &mut out);
     files::write(&out, n);
 }

@@ -1,6 +1,6 @@
 -- What the solver's tests yield, by the first that refuses.
-use mathlib.Core.Path.{_≡_, refl, sym, ap, _∙_}
-use mathlib.Core.Bool.{Bool, true, false, _&&_}
+use mathlib.Core.Path.{_≡_, sym, ap, _∙_}
+use mathlib.Core.Bool.{Bool}
 use mathlib.Core.List.{List, [], _∷_, _++_}
 use lib.Dec.{eqb}
 use lib.IntN.{ℤ}
@@ -8,11 +8,9 @@ use lib.ListN.{length}
 use Prim.Native.Nat.{ℕ}
 use borrow.Author.Tests.{eqb-true}
 use Rattle.graph.specs.declared.Refusal.{Refusal}
-use Rattle.graph.specs.declared.Fault.the-variants.{LentLength}
 use Rattle.graph.specs.Limits.{workspaceNumbers}
-use Rattle.graph.specs.Refusal.{Outcome, yields, refuses, Test, once, passing}
+use Rattle.graph.specs.Refusal.{Outcome, yields, refuses, Test, passing}
 use Rattle.graph.specs.Graph.{Graph, shapeOf, vertices}
-use Rattle.graph.specs.Tests.{graphLengths, graphTests, boundTest, kindTest}
 use Rattle.graph.specs.Index.{indexNumbers, indexTest}
 use Rattle.graph.specs.Passed.{Sound}
 use Rattle.graph.proofs.Ranges.{held}
@@ -20,16 +18,9 @@ use Rattle.checks.specs.declared.Check.{Check}
 use Rattle.checks.specs.declared.Check.the-variants as Check
 use Rattle.checks.specs.Checks.{checkSays}
 use Rattle.checks.proofs.Tests.{part-refuses, part-passes}
-use Rattle.lent.specs.Bipartite.{bipartiteTests}
+use Rattle.graph.specs.Tests.{bipartiteTests}
 use Rattle.lent.proofs.Bipartite.{Shown, bipartite-shown}
-use Rattle.dual.specs.Solve.{Lent, solve}
-use Rattle.solver.specs.Solver.{otherLengths}
-
--- The lengths of the graph and of its bounds, and then the others.
-together : (g a b c d e f : Bool) → g && (a && (b && c && d && e && f)) ≡ (g && a && b && c && d && e && f)
-together true true b c d e f = refl
-together true false b c d e f = refl
-together false a b c d e f = refl
+use Rattle.dual.specs.Solve.{Lent, otherLengths, solve}
 
 module _ (g : Graph) (bound : List ℤ) (index : List ℕ) (lent : Lent) {others : Bool} (told : others ≡ otherLengths (shapeOf g) (length index) lent) where
   -- The test of the index is the last.
@@ -38,11 +29,7 @@ module _ (g : Graph) (bound : List ℤ) (index : List ℕ) (lent : Lent) {others
 
   whole : passing (bipartiteTests g bound others ++ last) (yields tt) ≡ solve g bound index lent
   unfolding solve
-  whole =
-      ap (λ (b : Bool). passing (once LentLength b ∷ (graphTests g ++ (boundTest g bound ∷ kindTest g ∷ last))) (yields tt))
-      (ap (λ (b : Bool). graphLengths g && (eqb (length bound) (vertices g) && b)) told
-      ∙ together (graphLengths g) (eqb (length bound) (vertices g)) (eqb (length index) (indexNumbers g)) (eqb (lent .chosen) (g .edges))
-      (eqb (lent .vertexPrices) (vertices g)) (eqb (lent .edgePrices) (g .edges)) (eqb (lent .workspace) workspaceNumbers))
+  whole = ap (λ (b : Bool). passing (bipartiteTests g bound b ++ last) (yields tt)) told
 
   -- The check r of the tests before it.
   module _ {r : Check} (says : checkSays r ≡ passing (bipartiteTests g bound others) (yields tt)) where

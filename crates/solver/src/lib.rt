@@ -1,17 +1,16 @@
 // The solver: the primal-dual method between the tests of what is lent and the prices that are handed out.
 use checks::Check;
-use checks::both;
 use dual::SolveAnswer;
 use graph::Shape;
 use graph::WORKSPACE_NUMBERS;
+use integers::both;
 ghost use mathlib.Core.Path.{_≡_};
 ghost use lib.ListN.{length};
 ghost use Rattle.graph.specs.Graph.{graphOf};
 ghost use Rattle.checks.specs.Checks.{checkSays};
 ghost use Rattle.dual.specs.Solve as dual-solve;
 ghost use Rattle.graph.specs.Refusal.{told};
-ghost use Rattle.dual.specs.Solve.{lentOf, outputsOf, solveSays, Left};
-ghost use Rattle.solver.specs.Solver.{otherLengths};
+ghost use Rattle.dual.specs.Solve.{lentOf, outputsOf, otherLengths, solveSays, Left};
 
 // The lengths of what is lent for marks, vertex prices, edge prices and the workspace.
 struct Lengths {
@@ -22,13 +21,13 @@ struct Lengths {
 }
 
 // Whether what is lent besides the graph and its bounds has just the lengths that the numbers of vertices and of edges give, and the workspace its own.
-fn others_match(s: Shape, index: usize, outputs: Lengths) -> bool
+fn outputs_match(s: Shape, index: usize, outputs: Lengths) -> bool
     ensures { λ r. ⌜ r ≡ otherLengths s index (lentOf (outputs .chosen) (outputs .vertex) (outputs .edge) (outputs .workspace)) ⌝ }
 {
-    let n = checks::vertex_count(s) as usize;
+    let n = graph::vertex_count(s) as usize;
     let m = s.edges as usize;
     let marks = both(
-        index == index::index_numbers(s) as usize,
+        index == index_builder::index_numbers(s) as usize,
         outputs.chosen == m,
     );
     let prices = both(both(marks, outputs.vertex == n), outputs.edge == m);
@@ -47,7 +46,7 @@ fn tested(
 ) -> Check
     ensures { λ r. ⌜ checkSays r ≡ dual-solve.solve (graphOf s (now (row .entry)) (now (column .entry)) (now (weight .entry))) (now (bound .entry)) (now (index .entry)) (lentOf (outputs .chosen) (outputs .vertex) (outputs .edge) (outputs .workspace)) ⌝ }
 {
-    let others = others_match(s, index.len(), outputs);
+    let others = outputs_match(s, index.len(), outputs);
     if let Check::Refused(r) = lent::check_bipartite(s, row, column, weight, bound, others) {
         return Check::Refused(r);
     }
@@ -78,10 +77,10 @@ pub fn solve(
         workspace: workspace.len(),
     };
     let check = tested(s, row, column, weight, bound, index, outputs);
-    lent::clear_bytes(chosen);
-    lent::clear_integers(vertex_price);
-    lent::clear_integers(edge_price);
-    lent::clear_integers(workspace);
+    filling::clear_bytes(chosen);
+    filling::clear_integers(vertex_price);
+    filling::clear_integers(edge_price);
+    filling::clear_integers(workspace);
     if let Check::Refused(r) = check {
         return SolveAnswer::Refused(r);
     }
@@ -97,6 +96,6 @@ pub fn solve(
         edge_price,
         workspace,
     );
-    lent::clear_integers(workspace);
+    filling::clear_integers(workspace);
     SolveAnswer::Solved
 }

@@ -13,9 +13,10 @@ use Rattle.graph.specs.declared.Shape.{Shape}
 use Rattle.graph.specs.declared.Fault.the-variants.{Header, SizeLine, Sizes, LaterLine, Ends, SameEnds, Disagreement}
 use Rattle.graph.specs.Graph.{Graph, graphOf, sizesInRange, endsInRange, joins}
 use Rattle.graph.proofs.Passing.{lowest-some}
-use Rattle.checks.specs.declared.Lowest.{Lowest}
-use Rattle.checks.specs.declared.Lowest.the-variants as Lowest
-use Rattle.checks.specs.Checks.{lowestSays, Flagged, flagAt}
+use Rattle.lowest.specs.declared.Lowest.{Lowest}
+use Rattle.lowest.specs.declared.Lowest.the-variants as Lowest
+use Rattle.lowest.specs.Lowest.{lowestSays}
+use Rattle.checks.specs.Checks.{Flagged, flagAt}
 use Rattle.checks.proofs.Ranges.{ends-flagged}
 use Rattle.cells.specs.Cells.{cellSays, edgeAmong}
 use Rattle.layout.specs.declared.Rules.the-variants.{New}
@@ -27,9 +28,10 @@ use Rattle.text.specs.declared.Pair.{Pair}
 use Rattle.text.specs.declared.Pair.the-variants as Pair
 use Rattle.text.specs.declared.Triple.{Triple}
 use Rattle.text.specs.declared.Triple.the-variants as Triple
-use Rattle.text.specs.Cursor.{pairSays, tripleSays, kindSays}
-use Rattle.text.specs.declared.HeaderKind.{HeaderKind}
-use Rattle.text.specs.declared.HeaderKind.the-variants as HeaderKind
+use Rattle.headers.specs.Headers.{kindSays}
+use Rattle.text.specs.Cursor.{pairSays, tripleSays}
+use Rattle.headers.specs.declared.HeaderKind.{HeaderKind}
+use Rattle.headers.specs.declared.HeaderKind.the-variants as HeaderKind
 use Rattle.subgraph_reader.specs.OnLine.{soFar, chosenSays, withMark, Celled}
 use Rattle.subgraph_reader.specs.declared.ChosenLine.{ChosenLine}
 

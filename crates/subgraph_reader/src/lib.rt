@@ -1,17 +1,17 @@
 // Reads the text of a subgraph (plan) of a graph.
 use checks::Check;
-use checks::Lowest;
 use checks::TABLE_FLAGS;
-use checks::both;
 use graph::Fault;
 use graph::Kind;
 use graph::Shape;
+use headers::HeaderKind;
+use integers::both;
 use layout::Rules;
 use layout::SubgraphAnswer;
 use lines::Later;
 use lines::Opened;
+use lowest::Lowest;
 use text::Cursor;
-use text::HeaderKind;
 use text::Pair;
 use text::Triple;
 ghost use Prim.Native.Nat.{ℕ, _≤_};
@@ -71,7 +71,7 @@ enum ChosenLine {
     Refused(Fault),
 }
 
-fn size_on(line: &[u8], s: Shape) -> ChosenLine
+fn plan_size_on(line: &[u8], s: Shape) -> ChosenLine
     ensures { λ r. ⌜ chosenSays (s .edges) r ≡ subgraphSizes (noEdges s) (threeWords (natural New) (natural New) (natural New) (words (now (line .entry)))) ⌝ }
 {
     let Triple::Is(rows, columns, edges) = text::three_naturals(line, Rules::New) else {
@@ -84,7 +84,7 @@ fn size_on(line: &[u8], s: Shape) -> ChosenLine
         columns,
         edges,
     };
-    if checks::sizes_in_range(told) {
+    if ranges::sizes_in_range(told) {
         let sides = both(rows == s.rows, columns == s.columns);
         if both(sides, edges <= s.edges) {
             ChosenLine::Count(edges)
@@ -112,7 +112,7 @@ fn edge_on(text: &[u8], start: usize, end: usize, s: Shape, cells: &[u16], chose
     let Pair::Is(r, c) = text::two_naturals_in(text, start, end, Rules::New) else {
         return Choice::Refused(Fault::LaterLine);
     };
-    if checks::ends_in_range(s, r, c) {
+    if ranges::ends_in_range(s, r, c) {
         let Lowest::At(e) = cells::find_edge(cells, r, c) else {
             return Choice::Refused(Fault::Disagreement);
         };
@@ -127,7 +127,7 @@ fn edge_on(text: &[u8], start: usize, end: usize, s: Shape, cells: &[u16], chose
 }
 
 // The lines after the size line, of which `count` name an edge, into `chosen`. Each edge is looked up in a table of cells.
-fn read_edges(
+fn read_marks(
     text: &[u8],
     start: Cursor,
     s: Shape,
@@ -169,7 +169,7 @@ fn read_edges(
 }
 
 // The whole text, into `chosen`, which is cleared.
-fn read_lines(
+fn read_subgraph_lines(
     text: &[u8],
     s: Shape,
     row: &[u32],
@@ -183,7 +183,7 @@ fn read_lines(
     match lines::header_line(text) {
         Opened::Refused(r) => SubgraphAnswer::Refused(r),
         Opened::At { start, end, next } => {
-            let HeaderKind::Is(kind) = text::header_kind(&text[start..end], b"pattern") else {
+            let HeaderKind::Is(kind) = headers::header_kind(&text[start..end], b"pattern") else {
                 return SubgraphAnswer::Refused(lines::refused_at(Fault::Header, next));
             };
             let own = s.kind;
@@ -192,12 +192,12 @@ fn read_lines(
             }
             match lines::size_line(text, next) {
                 Opened::Refused(r) => SubgraphAnswer::Refused(r),
-                Opened::At { start, end, next } => match size_on(&text[start..end], s) {
+                Opened::At { start, end, next } => match plan_size_on(&text[start..end], s) {
                     ChosenLine::Refused(fault) => {
                         SubgraphAnswer::Refused(lines::refused_at(fault, next))
                     }
                     ChosenLine::Count(count) => {
-                        read_edges(text, next, s, row, column, count, chosen)
+                        read_marks(text, next, s, row, column, count, chosen)
                     }
                 },
             }
@@ -217,13 +217,13 @@ pub fn read_subgraph(
     ensures answer { λ r. ⌜ subgraphSays r ≡ told (reported (λ x. tt) (readSubgraph (graphOf s (now (row .entry)) (now (column .entry)) (now (weight .entry))) (length (now (chosen .entry))) (now (text .entry)))) ⌝ }
     ensures marks { λ _. ⌜ now (chosen .exit) ≡ output (length (now (chosen .entry))) 0 (λ x. x) (readSubgraph (graphOf s (now (row .entry)) (now (column .entry)) (now (weight .entry))) (length (now (chosen .entry))) (now (text .entry))) ⌝ }
 {
-    lent::clear_bytes(chosen);
+    filling::clear_bytes(chosen);
     match check_inputs(text, s, row, column, weight, chosen.len()) {
         Check::Refused(r) => SubgraphAnswer::Refused(r),
-        Check::Passed => match read_lines(text, s, row, column, chosen) {
+        Check::Passed => match read_subgraph_lines(text, s, row, column, chosen) {
             SubgraphAnswer::Read => SubgraphAnswer::Read,
             SubgraphAnswer::Refused(r) => {
-                lent::clear_bytes(chosen);
+                filling::clear_bytes(chosen);
                 SubgraphAnswer::Refused(r)
             }
         },

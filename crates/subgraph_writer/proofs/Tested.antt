@@ -16,12 +16,13 @@ use Rattle.graph.specs.Tests.{graphLengths, graphTests, markTest}
 use Rattle.graph.proofs.Passing.{passing-none, passing-found, passing-append, once-yields, lowest-some}
 use Rattle.checks.specs.declared.Check.{Check}
 use Rattle.checks.specs.declared.Check.the-variants as Check
-use Rattle.checks.specs.declared.Lowest.{Lowest}
-use Rattle.checks.specs.declared.Lowest.the-variants as Lowest
-use Rattle.checks.specs.Checks.{lowestSays, checkSays}
+use Rattle.lowest.specs.declared.Lowest.{Lowest}
+use Rattle.lowest.specs.declared.Lowest.the-variants as Lowest
+use Rattle.lowest.specs.Lowest.{lowestSays}
+use Rattle.checks.specs.Checks.{checkSays}
 use Rattle.graph.proofs.Ranges.{both}
 use Rattle.checks.proofs.Refusals.{checked-passed, checked-refused}
-use Rattle.checks.proofs.Scan.{says}
+use Rattle.lowest.proofs.Scan.{says}
 use Rattle.lent.proofs.Lengths.{lent-passed}
 use Rattle.layout.specs.SubgraphText.{subgraphText, writerTests, writeSubgraph}
 use Rattle.readback.proofs.Accepted.{Accepted, numberTests, writes, accepted}

@@ -1,5 +1,2 @@
-pub mod Machine
 pub mod Totals
-pub mod Products
-pub mod Steps
 pub mod Covers

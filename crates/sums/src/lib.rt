@@ -1,12 +1,12 @@
 // The sums of the measuring call: the subgraph's weight, the parts of the prices' total, the cover of every edge, and the four slacks.
 // Weights, bounds and prices are 32 bits wide, and their sums 64: a term is within 2 ^ 48, and a sum of at most 1,024 terms within 2 ^ 58.
 // The words `insides`, 2 a set, mark vertices, and `markings`, 16 a set, mark edges. Odd sets count by k.
-use checks::Ends;
-use checks::Lowest;
+use graph::Ends;
 use graph::MOST_EDGES;
 use graph::MOST_SETS;
 use graph::MOST_VERTICES;
 use graph::Shape;
+use lowest::Lowest;
 ghost use Prim.Native.Nat.{ℕ, _-_, _*_, _/_, _+_, _^_, _≤_, _<_};
 ghost use mathlib.Core.Path.{_≡_};
 ghost use mathlib.Core.List.{[]};
@@ -23,7 +23,7 @@ ghost use Rattle.graph.specs.Passed.{Sound, Bounded, MarksHold};
 ghost use Rattle.dual.specs.Sets.{one};
 ghost use Rattle.dual.specs.Prices.{pricesOf};
 ghost use Rattle.dual.specs.Gap.{halfPoints, coverOf};
-ghost use Rattle.checks.specs.Checks.{lowestSays};
+ghost use Rattle.lowest.specs.Lowest.{lowestSays};
 ghost use Rattle.sets.specs.Words.{coversBy};
 ghost use Rattle.sums.specs.Lent.{PricesLent};
 
@@ -71,7 +71,7 @@ pub fn vertex_total(s: Shape, bound: &[i32], vertex_price: &[i32]) -> i64
     requires { ⌜ (verticesIn s ≤ mostVertices) × Bounded (verticesIn s) (now bound) × (length (now «vertex_price») ≡ verticesIn s) ⌝ }
     ensures { λ r. ⌜ (r ≡ sumℤ (verticesIn s) (λ v. boundAt (now (bound .entry)) v *ℤ getD (now («vertex_price» .entry)) v (pos 0))) × Within (2 ^ 58) r ⌝ }
 {
-    let n = checks::vertex_count(s) as usize;
+    let n = graph::vertex_count(s) as usize;
     let mut total = 0;
     let mut v = 0;
     while v < n {
@@ -96,19 +96,12 @@ pub fn edge_total(edges: u32, edge_price: &[i32]) -> i64
     total
 }
 
-// The capacity of an odd set: half its load, rounded down.
-fn capacity(load: u32) -> u32
-    ensures { λ r. ⌜ r ≡ load / 2 ⌝ }
-{
-    load / 2
-}
-
 // The price of odd set k times its capacity.
 fn capacity_price(load: u32, set_price: &[i32], k: usize) -> i64
     requires { ⌜ (load ≤ 2 ^ 16) × (k < length (now «set_price»)) ⌝ }
     ensures { λ r. ⌜ (r ≡ pos (load / 2) *ℤ getD (now («set_price» .entry)) k (pos 0)) × Within (2 ^ 48) r ⌝ }
 {
-    integers::scale(capacity(load), integers::element(set_price, k))
+    integers::scale(terms::capacity(load), integers::element(set_price, k))
 }
 
 // The part of the total that the odd sets have: capacity times price.
@@ -126,21 +119,13 @@ pub fn set_total(sets: u32, load: [u32; MOST_SETS], set_price: &[i32]) -> i64
     total
 }
 
-// A price times what is left of a limit.
-fn price_of_rest(price: i64, limit: u32, used: u32) -> i64
-    requires { ⌜ (limit ≤ 2 ^ 16) × (used ≤ 2 ^ 16) × Within (2 ^ 31) price ⌝ }
-    ensures { λ r. ⌜ (r ≡ price *ℤ (pos limit -ℤ pos used)) × Within (2 ^ 48) r ⌝ }
-{
-    integers::subtract(integers::scale(limit, price), integers::scale(used, price))
-}
-
 // The price of vertex v times its residual bound (unused limit).
 fn residual_price(degree: u32, bound: &[i32], vertex_price: &[i32], v: usize) -> i64
     requires { ⌜ (v < length (now bound)) × ((pos 0 ≤ℤ boundAt (now bound) v) × (boundAt (now bound) v ≤ℤ pos greatestBound)) × (v < length (now «vertex_price»)) ⌝ }
     requires { ⌜ degree ≤ 2 ^ 16 ⌝ }
     ensures { λ r. ⌜ (r ≡ getD (now («vertex_price» .entry)) v (pos 0) *ℤ (boundAt (now (bound .entry)) v -ℤ pos degree)) × Within (2 ^ 48) r ⌝ }
 {
-    price_of_rest(
+    terms::price_of_rest(
         integers::element(vertex_price, v),
         bound_of(bound, v),
         degree,
@@ -158,7 +143,7 @@ pub fn vertex_slack(
     requires { ⌜ ((v : ℕ) → v < verticesIn s → getD degree v 0 ≤ 2 ^ 16) ⌝ }
     ensures { λ r. ⌜ (r ≡ sumℤ (verticesIn s) (λ v. getD (now («vertex_price» .entry)) v (pos 0) *ℤ (boundAt (now (bound .entry)) v -ℤ pos (getD degree v 0)))) × Within (2 ^ 58) r ⌝ }
 {
-    let n = checks::vertex_count(s) as usize;
+    let n = graph::vertex_count(s) as usize;
     let mut total = 0;
     let mut v = 0;
     while v < n {
@@ -183,8 +168,8 @@ pub fn set_slack(
     let mut total = 0;
     let mut k = 0;
     while k < count {
-        let limit = capacity(load[k]);
-        let rest = price_of_rest(integers::element(set_price, k), limit, covered[k]);
+        let most = terms::capacity(load[k]);
+        let rest = terms::price_of_rest(integers::element(set_price, k), most, covered[k]);
         total = integers::add(total, rest);
         k += 1;
     }
@@ -228,7 +213,7 @@ fn price_covering(
     ensures { λ r. ⌜ (r ≡ pos (one (coversBy (now (insides .entry)) (now (markings .entry)) k e (ends .first) (ends .second))) *ℤ getD (now («set_price» .entry)) k (pos 0)) × Within (2 ^ 31) r ⌝ }
 {
     let covering = sets::covers_edge(e, ends, insides, markings, k);
-    integers::if_chosen(sets::number(covering), integers::element(set_price, k))
+    integers::if_chosen(sets::as_number(covering), integers::element(set_price, k))
 }
 
 // The prices of all odd sets that cover edge e, added up.
@@ -288,7 +273,7 @@ pub fn cover_table(
 {
     let mut e = 0;
     while e < row.len() {
-        let ends = checks::ends_of(s, row[e], column[e]);
+        let ends = graph::ends_of(s, row[e], column[e]);
         let own = own_cover(e, ends, vertex_price, edge_price);
         let odd = set_cover(e, ends, sets, set_price, insides, markings);
         table[e] = integers::add(own, odd);
@@ -304,27 +289,13 @@ pub fn lowest_uncovered(edges: u32, weight: &[i32], cover: &[i64; MOST_EDGES]) -
     let m = edges as usize;
     let mut e = 0;
     while e < m {
-        let own = integers::element(weight, e);
-        let worth = dual::half_points(own);
-        if integers::at_most(worth, cover[e]) {
+        if terms::is_covered(weight, e, cover[e]) {
             e += 1;
         } else {
             return Lowest::At(e);
         }
     }
     Lowest::Nothing
-}
-
-// What an edge's cover exceeds its worth by where it is chosen, else 0. The weight may be negative.
-fn excess(cover: i64, weight: &[i32], chosen: &[u8], e: usize) -> i64
-    requires { ⌜ Within (2 ^ 36) cover ⌝ }
-    requires { ⌜ (e < length (now weight)) × (e < length (now chosen)) × (markAt (now chosen) e ≤ 1) ⌝ }
-    ensures { λ r. ⌜ (r ≡ pos (markAt (now (chosen .entry)) e) *ℤ (cover -ℤ halfPoints (getD (now (weight .entry)) e (pos 0)))) × Within (2 ^ 48) r ⌝ }
-{
-    let own = integers::element(weight, e);
-    let worth = dual::half_points(own);
-    let over = integers::subtract(cover, worth);
-    integers::if_chosen(chosen[e], over)
 }
 
 // The slack of cover.
@@ -337,7 +308,7 @@ pub fn cover_slack(edges: u32, cover: &[i64; MOST_EDGES], weight: &[i32], chosen
     let mut total = 0;
     let mut e = 0;
     while e < m {
-        total = integers::add(total, excess(cover[e], weight, chosen, e));
+        total = integers::add(total, terms::excess(cover[e], weight, chosen, e));
         e += 1;
     }
     total

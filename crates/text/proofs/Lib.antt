@@ -1,8 +1,4 @@
 pub mod Scans
 pub mod Pieces
 pub mod Lined
-pub mod Digits
-pub mod Integers
 pub mod Shapes
-pub mod Same
-pub mod Headers

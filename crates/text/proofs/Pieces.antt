@@ -9,7 +9,7 @@ use borrow.Author.Tests.{eq-eqb, ne-eqb}
 use Rattle.graph.proofs.Passing.{zero-one}
 use lib.ListN.{length, take, drop, getD, drop-of-length-le, length-take, length-drop}
 use lib.Seq.{drop-cons, drop-drop}
-use Rattle.layout.specs.Text.{blank, newline, pieces, onFirst, nonEmpty, lines, words, noWords, begins}
+use Rattle.layout.specs.Text.{blank, newline, pieces, onFirst, nonEmpty, lines, words, noWords, begins, startsWith}
 use Rattle.text.proofs.Scans.{run-le}
 use Rattle.text.specs.Cursor.{run, inLine, inWord, past, wordAt, firstWord, pastWord}
 
@@ -195,3 +195,12 @@ word-begins (x ∷ xs) h w is =
     go : (b : Bool) → not b ≡ true → b ≡ false
     go true e = zero-one (cc)
     go false e = refl
+
+-- The first byte of a line.
+pub starts-empty : (b : ℕ) (l : List ℕ) → length l ≡ 0 → startsWith b l ≡ false
+starts-empty b [] h = refl
+starts-empty b (x ∷ l) h = zero-one (omega arith)
+
+pub starts-at : (b : ℕ) (l : List ℕ) → (length l ≡ 0 → ⊥) → eqb (getD l 0 0) b ≡ startsWith b l
+starts-at b [] ne = absurd (ne refl)
+starts-at b (x ∷ l) ne = refl

@@ -7,12 +7,19 @@ use Prim.Native.Nat.{ℕ, _-_, _≤_}
 use native.Mathlib.Omega.{arith}
 use lib.ListN.{length, take, drop, length-drop}
 use lib.Seq.{take-all}
+use lib.IntN.{ℤ}
+use mir.Syntax.{w32}
+use mir.Val.{SFits}
 use Rattle.graph.proofs.Passing.{zero-one}
 use Rattle.layout.specs.declared.Rules.{Rules}
 use Rattle.layout.specs.declared.Rules.the-variants.{New, Old}
-use Rattle.layout.specs.Text.{blank, words, noWords, numeral, natural, integer, both, all3, oneWord, twoWords, threeWords}
-use Rattle.text.specs.Cursor.{inWord, past, pastWord, firstWord, next}
+use Rattle.layout.proofs.Digits.{absent}
+use Rattle.numerals.proofs.Integers.{integer-fits}
+use Rattle.layout.specs.Text.{blank, words, noWords, numeral, natural, integer, bothSome, all3, oneWord, twoWords, threeWords}
+use Rattle.text.specs.Cursor.{inWord, past, pastWord, firstWord, next, nextNaturalSays}
 use Rattle.text.specs.declared.Cursor.{Cursor}
+use Rattle.text.specs.declared.NextNatural.{NextNatural}
+use Rattle.text.specs.declared.NextNatural.the-variants as NextNatural
 use Rattle.text.proofs.Scans.{run-le}
 use Rattle.text.proofs.Pieces.{Front, nothing, word, front}
 
@@ -108,15 +115,15 @@ module _ {A B : Type 0} (f : List ℕ → Option A) (g : List ℕ → Option B) 
   unfolding twoWords
   two-bad [] h = refl
   two-bad (u ∷ []) h = refl
-  two-bad (u ∷ v ∷ []) h = ap (λ (o : Option A). both o (g v)) h
+  two-bad (u ∷ v ∷ []) h = ap (λ (o : Option A). bothSome o (g v)) h
   two-bad (u ∷ v ∷ w ∷ ws) h = refl
 
   two-step : (u : List ℕ) (ws : List (List ℕ)) (a : A) → f u ≡ some a → twoWords f g (u ∷ ws) ≡ Option·map (λ b. (a, b)) (oneWord g ws)
   unfolding twoWords oneWord
   two-step u [] a h = refl
-  two-step u (v ∷ []) a h = ap (λ (o : Option A). both o (g v)) h ∙ go (g v)
+  two-step u (v ∷ []) a h = ap (λ (o : Option A). bothSome o (g v)) h ∙ go (g v)
     where
-      go : (o : Option B) → both (some a) o ≡ Option·map (λ b. (a, b)) o
+      go : (o : Option B) → bothSome (some a) o ≡ Option·map (λ b. (a, b)) o
       go none = refl
       go (some b) = refl
   two-step u (v ∷ w ∷ ws) a h = refl
@@ -143,7 +150,7 @@ module _ {A B C : Type 0} (f : List ℕ → Option A) (g : List ℕ → Option B
   three-step u (v ∷ []) a q = refl
   three-step u (v ∷ w ∷ []) a q = ap (λ (o : Option A). all3 o (g v) (h w)) q ∙ go (g v) (h w)
     where
-      go : (m : Option B) (n : Option C) → all3 (some a) m n ≡ Option·map (λ p. (a, p .0, p .1)) (both m n)
+      go : (m : Option B) (n : Option C) → all3 (some a) m n ≡ Option·map (λ p. (a, p .0, p .1)) (bothSome m n)
       go none n = refl
       go (some b) none = refl
       go (some b) (some c) = refl
@@ -168,3 +175,52 @@ module _ {A B C : Type 0} (f : List ℕ → Option A) (g : List ℕ → Option B
         go : (o : Option C) → Option·map {B = A × B × C} (λ p. (a, p .0, p .1)) (Option·map {B = B × C} (λ c. (b, c)) o) ≡ Option·map (λ c. (a, b, c)) o
         go none = refl
         go (some c) = refl
+
+-- The first two words of a line of three, by what the cursor finds; h reads the last.
+module _ (rules : Rules) {C : Type 0} (h : List ℕ → Option C) (l : List ℕ) {p : NextNatural}
+    (first : nextNaturalSays p ≡ next (natural rules) l (record { at = 0; line = 0 })) where
+  pub first-spoilt : p ≡ NextNatural.Bad → none ≡ threeWords (natural rules) (natural rules) h (words l)
+  first-spoilt is =
+      sym (three-bad (natural rules) (natural rules) h (words l)
+      (spoilt (natural rules) l (record { at = 0; line = 0 }) (sym (ap nextNaturalSays is) ∙ first)))
+
+  module _ {a : ℕ} {c : Cursor} (is : p ≡ NextNatural.Is a c) where
+    pub first-took : Took (natural rules) l 0 a (c .at)
+    first-took = took (natural rules) l (record { at = 0; line = 0 }) (natural-nil rules) (omega arith) a c (sym (ap nextNaturalSays is) ∙ first)
+
+    module _ {q : NextNatural} (second : nextNaturalSays q ≡ next (natural rules) l c) where
+      pub second-spoilt : q ≡ NextNatural.Bad → none ≡ threeWords (natural rules) (natural rules) h (words l)
+      second-spoilt it =
+          sym (three-second (natural rules) (natural rules) h l a (c .at) first-took (spoilt (natural rules) l c (sym (ap nextNaturalSays it) ∙ second)))
+
+      module _ {b : ℕ} {d : Cursor} (it : q ≡ NextNatural.Is b d) where
+        pub second-took : Took (natural rules) l (c .at) b (d .at)
+        second-took = took (natural rules) l c (natural-nil rules) (first-took .inside) b d (sym (ap nextNaturalSays it) ∙ second)
+
+        pub third-as : (o : Option C) → o ≡ oneWord h (words (drop (d .at) l)) →
+            Option·map (λ z. (a, b, z)) o ≡ threeWords (natural rules) (natural rules) h (words l)
+        third-as o e = three-last (natural rules) (natural rules) h l a (c .at) first-took b (d .at) second-took o e
+
+-- The integer of a line of one fits an `i32`, and so does the weight of an edge's line.
+pub one-fits : (rules : Rules) (ws : List (List ℕ)) (z : ℤ) → oneWord (integer rules) ws ≡ some z → SFits w32 z
+unfolding oneWord
+one-fits rules [] z e = absent e
+one-fits rules (w ∷ []) z e = integer-fits rules w z e
+one-fits rules (w ∷ v ∷ ws) z e = absent e
+
+pub edge-fits : (rules : Rules) (ws : List (List ℕ)) (r c : ℕ) (z : ℤ) →
+    threeWords (natural rules) (natural rules) (integer rules) ws ≡ some (r, c, z) → SFits w32 z
+unfolding threeWords
+edge-fits rules [] r c z e = absent e
+edge-fits rules (u ∷ []) r c z e = absent e
+edge-fits rules (u ∷ v ∷ []) r c z e = absent e
+edge-fits rules (u ∷ v ∷ w ∷ []) r c z e = go (natural rules u) (natural rules v) (integer rules w) refl e
+  where
+    go : (a b : Option ℕ) (o : Option ℤ) → integer rules w ≡ o → all3 a b o ≡ some (r, c, z) → SFits w32 z
+    go none b o q e = absent e
+    go (some i) none o q e = absent e
+    go (some i) (some j) none q e = absent e
+    go (some i) (some j) (some y) q e =
+        let p : _≡_ {A = ℕ × ℕ × ℤ} (i, j, y) (r, c, z) = cc in
+        integer-fits rules w z (q ∙ ap (λ (t : ℕ × ℕ × ℤ). some (t .2)) p)
+edge-fits rules (u ∷ v ∷ w ∷ x ∷ ws) r c z e = absent e

@@ -39,7 +39,7 @@ pub fn tidy_graph(
 {
     let long = out.len() == LONGEST_TEXT;
     if let Check::Refused(r) = lent::check_lent(s, row, column, weight, long) {
-        lent::clear_bytes(out);
+        filling::clear_bytes(out);
         return TextAnswer::Refused(r);
     }
     let length = put_tidy(s, row, column, weight, out);

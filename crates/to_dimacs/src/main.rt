@@ -1,9 +1,9 @@
 // The program `to_dimacs`: reads sheet.mtx and limits.mtx from the working folder, and writes the sheet as a DIMACS assignment text, or a refusal.
 // Its stored run is a sheet of two rows and three columns, with weights above, below and at 0.
-use graph::LONGEST_TEXT;
+mod output;
 
-// One byte more than a text may have, so that a longer file is seen to be too long.
-const FILE_BYTES: usize = LONGEST_TEXT + 1;
+use files::FILE_BYTES;
+use graph::LONGEST_TEXT;
 
 fn main() {
     let mut sheet = [0u8; FILE_BYTES];
@@ -11,6 +11,6 @@ fn main() {
     let mut limits = [0u8; FILE_BYTES];
     let l = files::read(b"limits.mtx", &mut limits);
     let mut out = [0u8; LONGEST_TEXT];
-    let length = to_dimacs_writer::to_dimacs(&sheet[..s], &limits[..l], &mut out);
+    let length = output::to_dimacs_output(&sheet[..s], &limits[..l], &mut out);
     files::write(&out, length);
 }

@@ -1,7 +1,5 @@
-pub mod Over
 pub mod Put
-pub mod Signs
-pub mod Parts
+pub mod Zeros
 pub mod Writing
 pub mod Lines
 pub mod Subgraph

@@ -14,9 +14,10 @@ use Rattle.layout.specs.Text.{decimal, spaced, unlines}
 use Rattle.layout.specs.GraphText.{headerText}
 use Rattle.readback.proofs.Pieces.{unlines-append, length-line, length-no-line}
 use Rattle.readback.proofs.Fits.{length-two, length-three, header-le, size-line-le}
-use Rattle.writer.specs.Written.{Puts, headLines, edgeLines}
-use Rattle.writer.proofs.Over.{puts-none, puts-long, puts-byte, puts-then, puts-same, part-long, puts-part}
-use Rattle.writer.proofs.Put.{ten-digits}
+use Rattle.digits.specs.Puts.{Puts}
+use Rattle.writer.specs.Written.{headLines, markedLines}
+use Rattle.digits.proofs.Over.{puts-none, puts-long, puts-byte, puts-then, puts-same, part-long, puts-part}
+use Rattle.digits.proofs.Numbers.{ten-digits}
 
 -- ---- lines of numbers
 
@@ -157,12 +158,12 @@ head-puts d {d₁} f s o room hm hn ho zeros p q =
 -- ---- the line of an edge
 
 pub edge-chosen : {d after : List ℕ} {at e : ℕ} (r c mark : ℕ) → mark ≡ 1
-    → Puts d at (unlines (spaced (decimal r ∷ decimal c ∷ []) ∷ [])) after e → Puts d at (unlines (edgeLines r c mark)) after e
+    → Puts d at (unlines (spaced (decimal r ∷ decimal c ∷ []) ∷ [])) after e → Puts d at (unlines (markedLines r c mark)) after e
 edge-chosen r c mark h p = rw (eq-eqb mark 1 h) p
 
 nothing : [] ≡ unlines []
 unfolding unlines
 nothing = refl
 
-pub edge-unchosen : (d : List ℕ) (at r c mark : ℕ) → (mark ≡ 1 → ⊥) → Puts d at (unlines (edgeLines r c mark)) d at
+pub edge-unchosen : (d : List ℕ) (at r c mark : ℕ) → (mark ≡ 1 → ⊥) → Puts d at (unlines (markedLines r c mark)) d at
 edge-unchosen d at r c mark h = rw (ne-eqb mark 1 h) (puts-same (puts-none d at) nothing)

@@ -18,8 +18,10 @@ use Rattle.readback.proofs.Accepted.{small}
 use Rattle.readback.proofs.Pieces.{unlines-append}
 use Rattle.readback.proofs.Growing.{growing-none, growing-next}
 use Rattle.readback.proofs.Fits.{count-le, chosen-growing, line-le, text-le}
-use Rattle.writer.specs.Written.{Puts, Written, headLines, edgeLines}
-use Rattle.writer.proofs.Over.{puts-then, puts-same, zeros-written}
+use Rattle.digits.specs.Puts.{Puts}
+use Rattle.writer.specs.Written.{Written, headLines, markedLines}
+use Rattle.writer.proofs.Zeros.{zeros-written}
+use Rattle.digits.proofs.Over.{puts-then, puts-same}
 use Rattle.writer.proofs.Lines.{head-le}
 use Rattle.writer.proofs.Writing.{Writing, writing-starts, writing-room, writing-more, writing-ends}
 
@@ -30,12 +32,12 @@ abbrev pub edgeText : Graph → List ℕ → ℕ → List ℕ
 edgeText g x n = unlines (chosenLines g x n)
 
 -- They do not depend on the shape and the weights.
-abbrev pub textFor : List ℕ → List ℕ → List ℕ → Shape × List ℤ → ℕ → List ℕ
-textFor row column x i n = edgeText (graphOf (i .0) row column (i .1)) x n
+abbrev pub chosenText : List ℕ → List ℕ → List ℕ → Shape × List ℤ → ℕ → List ℕ
+chosenText row column x i n = edgeText (graphOf (i .0) row column (i .1)) x n
 
 -- The lines of the first n edges have been written from start on.
-abbrev pub EdgesWriting : List ℕ → List ℕ → List ℕ → List ℕ → ℕ → List ℕ → ℕ → ℕ → Type 0
-EdgesWriting row column x = Writing (textFor row column x) (length row) 8 32
+abbrev pub ChosenWriting : List ℕ → List ℕ → List ℕ → List ℕ → ℕ → List ℕ → ℕ → ℕ → Type 0
+ChosenWriting row column x = Writing (chosenText row column x) (length row) 8 32
 
 module _ {s : Shape} {row column x : List ℕ} (S : Sound s row column) (M : MarksHold (s .edges) x) where
   pub few : length row ≤ 1024
@@ -44,23 +46,23 @@ module _ {s : Shape} {row column x : List ℕ} (S : Sound s row column) (M : Mar
   pub marks-few : length x ≤ 1024
   marks-few = omega (arith, M .long, S .sizes .few)
 
-  pub edges-start : (d : List ℕ) (start : ℕ) → start + 8224 ≤ length d → EdgesWriting row column x d start d start 0
+  pub edges-start : (d : List ℕ) (start : ℕ) → start + 8224 ≤ length d → ChosenWriting row column x d start d start 0
   edges-start d start h =
-      writing-starts (textFor row column x) (length row) 8 32 d start (λ i. growing-none (chosen-growing (graphOf (i .0) row column (i .1)) x)) (omega (arith, few))
+      writing-starts (chosenText row column x) (length row) 8 32 d start (λ i. growing-none (chosen-growing (graphOf (i .0) row column (i .1)) x)) (omega (arith, few))
 
-  module _ {d : List ℕ} {start : ℕ} {l : List ℕ} {at n : ℕ} (W : EdgesWriting row column x d start l at n) where
+  module _ {d : List ℕ} {start : ℕ} {l : List ℕ} {at n : ℕ} (W : ChosenWriting row column x d start l at n) where
     pub line-room : n < length row → at + 32 ≤ length l
-    line-room lt = omega (arith, writing-room (textFor row column x) (length row) 8 32 W lt)
+    line-room lt = omega (arith, writing-room (chosenText row column x) (length row) 8 32 W lt)
 
     pub edges-more : n < length row → {l′ : List ℕ} {at′ : ℕ} → length l′ ≡ length l
-        → Puts l at (unlines (edgeLines (getD row n 0) (getD column n 0) (getD x n 0))) l′ at′ → EdgesWriting row column x d start l′ at′ (n + 1)
+        → Puts l at (unlines (markedLines (getD row n 0) (getD column n 0) (getD x n 0))) l′ at′ → ChosenWriting row column x d start l′ at′ (n + 1)
     edges-more lt =
-        writing-more (textFor row column x) (length row) 8 32 W lt (line-le x (small (graphOf s row column []) S) n (omega (arith, S .rowLong)))
+        writing-more (chosenText row column x) (length row) 8 32 W lt (line-le x (small (graphOf s row column []) S) n (omega (arith, S .rowLong)))
         (λ i. growing-next (chosen-growing (graphOf (i .0) row column (i .1)) x) n)
 
     pub edges-end : length row ≤ n → (w : List ℤ) → Puts d start (edgeText (graphOf s row column w) x (s .edges)) l at
     edges-end le w =
-        puts-same (writing-ends (textFor row column x) (length row) 8 32 W le (s, w)) (ap (edgeText (graphOf s row column w) x) (S .rowLong))
+        puts-same (writing-ends (chosenText row column x) (length row) 8 32 W le (s, w)) (ap (edgeText (graphOf s row column w) x) (S .rowLong))
 
   -- ---- the whole text
 

@@ -8,8 +8,8 @@ use native.Mathlib.Omega.{arith}
 use lib.ListN.{length}
 use Rattle.layout.specs.Text.{unlines}
 use Rattle.readback.proofs.Growing.{Growing, growing-none, growing-next}
-use Rattle.writer.specs.Written.{Puts}
-use Rattle.writer.proofs.Over.{puts-none, puts-then, puts-same}
+use Rattle.digits.specs.Puts.{Puts}
+use Rattle.digits.proofs.Over.{puts-none, puts-then, puts-same}
 
 -- The text of the first n of m items, each of at most k bytes, has been written from start on in d, which is now l. There is room for all, and for z bytes
 -- more. The text may depend on what the loop does not look at, i.

@@ -1,79 +1,22 @@
-// Writes numbers, and a subgraph (plan) as a Matrix Market text.
+// Writes bytes, the head of a text of coordinates, and a subgraph (plan) as a Matrix Market text.
 use graph::Kind;
 use graph::Shape;
 use layout::Field;
 ghost use mathlib.Core.Path.{_≡_};
-ghost use mathlib.Core.List.{List, [], _∷_, _++_};
+ghost use mathlib.Core.List.{List, [], _∷_};
 ghost use Prim.Native.Nat.{_+_, _≤_};
 ghost use lib.IntN.{ℤ};
 ghost use lib.ListN.{length, replicate};
-ghost use Rattle.integers.specs.Integer.{up, dn};
 ghost use Rattle.integers.specs.Sum.{sum};
 ghost use Rattle.graph.specs.Limits.{mostEdges, subgraphBytes};
 ghost use Rattle.graph.specs.Graph.{graphOf};
 ghost use Rattle.graph.specs.Subgraph.{markAt};
 ghost use Rattle.graph.specs.Passed.{Sound, MarksHold};
-ghost use Rattle.layout.specs.Text.{decimal, signed, spaced, unlines};
+ghost use Rattle.layout.specs.Text.{decimal, spaced, unlines};
 ghost use Rattle.layout.specs.GraphText.{headerText};
 ghost use Rattle.layout.specs.SubgraphText.{subgraphText};
-ghost use Rattle.writer.specs.Written.{Puts, Written, headLines, edgeLines};
-
-// Writes the digits of n at the start of `out`, with no leading zero. The result is their number.
-pub fn put_number(out: &mut [u8], n: u64) -> usize
-    requires { ⌜ 20 ≤ length (now out) ⌝ }
-    ensures { λ r. ⌜ Puts (now (out .entry)) 0 (decimal n) (now (out .exit)) r ⌝ }
-{
-    if n < 10 {
-        out[0] = 48 + (n as u8);
-        return 1;
-    }
-    let k = put_number(out, n / 10);
-    out[k] = 48 + ((n % 10) as u8);
-    k + 1
-}
-
-// A number without its sign. Before it is negated, x below 0 is raised by 1, so that the least number has a magnitude too.
-fn magnitude(x: i64) -> u64
-    ensures { λ r. ⌜ r ≡ up x + dn x ⌝ }
-{
-    if x < 0 {
-        (-(x + 1)) as u64 + 1
-    } else {
-        x as u64
-    }
-}
-
-// Writes the digits of n from `at` on. The result is the place after them.
-pub fn put_natural(out: &mut [u8], at: usize, n: u64) -> usize
-    requires { ⌜ at + 20 ≤ length (now out) ⌝ }
-    ensures { λ r. ⌜ Puts (now (out .entry)) at (decimal n) (now (out .exit)) r × (r ≤ at + 20) ⌝ }
-{
-    at + put_number(&mut out[at..], n)
-}
-
-// Writes the digits of n from `at` on, and one byte after them. The result is the place after it.
-pub fn put_field(out: &mut [u8], at: usize, n: u64, byte: u8) -> usize
-    requires { ⌜ at + 21 ≤ length (now out) ⌝ }
-    ensures { λ r. ⌜ Puts (now (out .entry)) at (decimal n ++ (byte ∷ [])) (now (out .exit)) r × (r ≤ at + 21) ⌝ }
-{
-    let end = put_natural(out, at, n);
-    out[end] = byte;
-    end + 1
-}
-
-// Writes z from `at` on, with - before a number below 0. The result is the place after it.
-pub fn put_signed(out: &mut [u8], at: usize, z: i64) -> usize
-    requires { ⌜ at + 21 ≤ length (now out) ⌝ }
-    ensures { λ r. ⌜ Puts (now (out .entry)) at (signed z) (now (out .exit)) r × (r ≤ at + 21) ⌝ }
-{
-    let n = magnitude(z);
-    if z < 0 {
-        out[at] = 45;
-        put_natural(out, at + 1, n)
-    } else {
-        put_natural(out, at, n)
-    }
-}
+ghost use Rattle.digits.specs.Puts.{Puts};
+ghost use Rattle.writer.specs.Written.{Written, headLines, markedLines};
 
 // Writes the bytes b from `at` on. The result is the place after them.
 pub fn put_bytes(out: &mut [u8], at: usize, b: &[u8]) -> usize
@@ -93,10 +36,10 @@ fn put_pair(out: &mut [u8], at: usize, m: u32, n: u32) -> usize
     requires { ⌜ at + 32 ≤ length (now out) ⌝ }
     ensures { λ r. ⌜ Puts (now (out .entry)) at (unlines (spaced (decimal m ∷ decimal n ∷ []) ∷ [])) (now (out .exit)) r ⌝ }
 {
-    let a = at + put_number(&mut out[at..], m as u64);
+    let a = at + digits::put_number(&mut out[at..], m as u64);
     out[a] = 32;
     let b = a + 1;
-    let e = b + put_number(&mut out[b..], n as u64);
+    let e = b + digits::put_number(&mut out[b..], n as u64);
     out[e] = 10;
     e + 1
 }
@@ -106,7 +49,7 @@ fn put_sizes(out: &mut [u8], at: usize, rows: u32, columns: u32, count: u32) -> 
     requires { ⌜ at + 43 ≤ length (now out) ⌝ }
     ensures { λ r. ⌜ Puts (now (out .entry)) at (unlines (spaced (decimal rows ∷ decimal columns ∷ decimal count ∷ []) ∷ [])) (now (out .exit)) r ⌝ }
 {
-    let a = at + put_number(&mut out[at..], rows as u64);
+    let a = at + digits::put_number(&mut out[at..], rows as u64);
     out[a] = 32;
     put_pair(out, a + 1, columns, count)
 }
@@ -149,16 +92,16 @@ pub fn put_head(out: &mut [u8], field: Field, s: Shape, count: u32) -> usize
     requires { ⌜ 128 ≤ length (now out) ⌝ }
     ensures { λ r. ⌜ Puts (replicate (length (now (out .entry))) 0) 0 (unlines (headLines field s count)) (now (out .exit)) r ⌝ }
 {
-    lent::clear_bytes(out);
+    filling::clear_bytes(out);
     let kind = s.kind;
     let at = put_header(out, field, kind);
     put_sizes(out, at, s.rows, s.columns, count)
 }
 
 // Writes the line of an edge from `at` on if its mark is 1. The result is the place after it.
-fn put_edge(out: &mut [u8], at: usize, row: u32, column: u32, mark: u8) -> usize
+fn put_chosen_edge(out: &mut [u8], at: usize, row: u32, column: u32, mark: u8) -> usize
     requires { ⌜ at + 32 ≤ length (now out) ⌝ }
-    ensures { λ r. ⌜ Puts (now (out .entry)) at (unlines (edgeLines row column mark)) (now (out .exit)) r ⌝ }
+    ensures { λ r. ⌜ Puts (now (out .entry)) at (unlines (markedLines row column mark)) (now (out .exit)) r ⌝ }
 {
     if mark == 1 {
         put_pair(out, at, row, column)
@@ -191,7 +134,7 @@ pub fn put_subgraph(out: &mut [u8], s: Shape, row: &[u32], column: &[u32], chose
     let mut at = put_head(out, Field::Pattern, s, count_chosen(chosen));
     let mut e = 0;
     while e < row.len() {
-        at = put_edge(out, at, row[e], column[e], chosen[e]);
+        at = put_chosen_edge(out, at, row[e], column[e], chosen[e]);
         e += 1;
     }
     at

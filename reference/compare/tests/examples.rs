@@ -1,10 +1,10 @@
 //! The separately written program and the proved calls on the examples of the repository.
 
-use compare::assignments::Assigned;
-use compare::examples::{assignments, example, file, texts, PARTNER, TIDIED};
-use compare::files::{CROSSES, OLD};
-use compare::proved;
-use compare::tidies::{read, tidy};
+use compare::calls::assignments::Assigned;
+use compare::calls::tidies::{read, tidy};
+use compare::drawing::examples::{assignments, example, file, texts, PARTNER, TIDIED};
+use compare::harness::files::{CROSSES, OLD};
+use compare::harness::proved;
 use reference::programs::Input;
 use reference::rewrite::CANNOT_READ;
 use reference::{from_dimacs_output, mark_output, rewrite};

@@ -1,14 +1,14 @@
 //! What a run of a program may not leave behind.
 
-use compare::dimacs_runs::{ComingIn, GoingOut};
-use compare::examples::example;
-use compare::files::{Entry, Folder};
-use compare::old_texts::OldText;
-use compare::programs::Run;
-use compare::rewrites::Rewriting;
-use compare::runs::{Printed, Program};
-use compare::tidy_runs::Tidying;
-use compare::twice::Twice;
+use compare::drawing::examples::example;
+use compare::drawing::old_texts::OldText;
+use compare::harness::files::{Entry, Folder};
+use compare::harness::runs::{Printed, Program};
+use compare::programs::dimacs_runs::{ComingIn, GoingOut};
+use compare::programs::plan_runs::Run;
+use compare::programs::rewrites::Rewriting;
+use compare::programs::tidy_runs::Tidying;
+use compare::programs::twice::Twice;
 
 const PLAN: &str = "%%MatrixMarket matrix coordinate pattern general\n2 2 2\n1 2\n2 1\n";
 const LINE: &str = "merit 6 total 16 fish 0 groups 0 pairs 0 cover 4 gap 4\n";

@@ -1,4 +1,4 @@
-//! The three readers.
+//! The readers of graphs, numbers and subgraphs.
 
 use crate::graph::{
     bound_in_range, ends_in_range, graph_lengths_right, has_length, price_in_range, sizes_in_range,

@@ -5,7 +5,7 @@
 /// counted from 1, or 0.
 #[derive(Clone, Copy, Debug, PartialEq, Eq)]
 pub struct Refusal {
-    /// The number in the refusal table, 1 to 21.
+    /// The number in the refusal table, from 1.
     pub number: u32,
     /// The place.
     pub place: u64,

@@ -4,8 +4,8 @@ use mathlib.Core.Path.{ap₂}
 use native.Mathlib.Omega.{arith}
 use Rattle.graph.specs.Graph.{graphOf}
 use Rattle.graph.proofs.Index.{offset-more}
-use Rattle.tree.proofs.Solvable.{few, rows-in}
-use Rattle.tree.proofs.Places.{start-in, start}
+use Rattle.method.proofs.Solvable.{few, rows-in}
+use Rattle.method.proofs.Places.{start-in, start}
 use Rattle.arcs.specs.Arcs.{ListsBegun}
 use Rattle.arcs.proofs.Rows.{begun-none, begun-more, begun-end}
 use Rattle.arcs.proofs.begin_lists.Statement.{statement}

@@ -5,7 +5,7 @@ use native.Mathlib.Omega.{arith}
 use lib.ListN.{length, getD}
 use Rattle.graph.specs.Limits.{mostEdges}
 use Rattle.graph.specs.Graph.{verticesIn}
-use Rattle.tree.specs.Lists.{leasts, mostArcs}
+use Rattle.method.specs.Lists.{leasts, mostArcs}
 use Rattle.arcs.specs.Arcs.{keepsIn, edgeIn, KeptRow, SameArcs}
 use Rattle.arcs.proofs.Row.{read, keepable, same-arcs, same-stored, row-none, row-more, row-end}
 use Rattle.arcs.proofs.keep_row.Statement.{statement}

@@ -4,9 +4,9 @@ use mathlib.Core.Path.{_≡_}
 use native.Mathlib.Omega.{arith}
 use lib.ListN.{length, getD, length-set}
 use Rattle.graph.specs.Graph.{graphOf}
-use Rattle.tree.specs.Lists.{starts, stops, leasts, mostTable, edges, heads, values, mostArcs, keeps, Kept}
-use Rattle.tree.proofs.Solvable.{few, root-in}
-use Rattle.tree.proofs.Places.{start-in}
+use Rattle.method.specs.Lists.{starts, stops, leasts, mostTable, edges, heads, values, mostArcs, keeps, Kept}
+use Rattle.method.proofs.Solvable.{few, root-in}
+use Rattle.method.proofs.Places.{start-in}
 use Rattle.arcs.specs.Arcs.{SameBounds}
 use Rattle.arcs.proofs.Rows.{kept-none, row-placed, bounds-same, bounds-again, readable, rises, kept-more, keeps-here, kept-end}
 use Rattle.arcs.proofs.keep_rows.Statement.{statement}

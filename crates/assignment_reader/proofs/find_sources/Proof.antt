@@ -34,18 +34,18 @@ returns-2 c =
     let loop = at-entry-line .before .loop in
     turn-long (loop .inv) (at-entry-line .entry-line .ensures) (at-place2 .place2 .given .1) (c .wrong-line .ensures)
 
-sub-source-on : tie.Need-sub-source-on Inv-loop μ-loop
-sub-source-on c =
+sub-next-source : tie.Need-sub-next-source Inv-loop μ-loop
+sub-next-source c =
     let entry-line = c .before .before .before .entry-line in
     found-line (entry-line .ensures) (c .before .start .given .1) .forward
 
-part-source-on-start : tie.Need-part-source-on-start Inv-loop μ-loop
-part-source-on-start c =
+part-next-source-start : tie.Need-part-next-source-start Inv-loop μ-loop
+part-next-source-start c =
     let entry-line = c .before .before .before .entry-line in
     found-line (entry-line .ensures) (c .before .start .given .1) .forward
 
-part-source-on-end : tie.Need-part-source-on-end Inv-loop μ-loop
-part-source-on-end c =
+part-next-source-end : tie.Need-part-next-source-end Inv-loop μ-loop
+part-next-source-end c =
     let entry-line = c .before .before .before .entry-line in
     found-line (entry-line .ensures) (c .before .start .given .1) .ends
 
@@ -57,31 +57,31 @@ loop-less c =
 
 loop-again : tie.Need-loop-again Inv-loop μ-loop
 loop-again c =
-    let at-source-on = c .before .before .before in
-    let at-start = at-source-on .before .before .before in
+    let at-next-source = c .before .before .before in
+    let at-start = at-next-source .before .before .before in
     let at-entry-line = at-start .before .before in
     let loop = at-entry-line .before .loop in
-    turn-node (loop .inv) (at-entry-line .entry-line .ensures) (at-start .start .given .1) (at-source-on .source-on .result)
-    (at-source-on .source-on .ensures) (c .before .node .given .1)
+    turn-node (loop .inv) (at-entry-line .entry-line .ensures) (at-start .start .given .1) (at-next-source .next-source .result)
+    (at-next-source .next-source .ensures) (c .before .node .given .1)
 
 returns-3 : tie.Need-returns-3 Inv-loop μ-loop
 returns-3 c =
-    let at-source-on = c .before .before in
-    let at-start = at-source-on .before .before .before in
+    let at-next-source = c .before .before in
+    let at-start = at-next-source .before .before .before in
     let at-entry-line = at-start .before .before in
     let loop = at-entry-line .before .loop in
-    turn-arc (loop .inv) (at-entry-line .entry-line .ensures) (at-start .start .given .1) (at-source-on .source-on .result)
-    (at-source-on .source-on .ensures) (c .enum-told .given .1)
+    turn-arc (loop .inv) (at-entry-line .entry-line .ensures) (at-start .start .given .1) (at-next-source .next-source .result)
+    (at-next-source .next-source .ensures) (c .enum-told .given .1)
 
 returns-4 : tie.Need-returns-4 Inv-loop μ-loop
 returns-4 c =
     let at-fault = c .before .before in
-    let at-source-on = at-fault .before .before in
-    let at-start = at-source-on .before .before .before in
+    let at-next-source = at-fault .before .before in
+    let at-start = at-next-source .before .before .before in
     let at-entry-line = at-start .before .before in
     let loop = at-entry-line .before .loop in
-    turn-refused (loop .inv) (at-entry-line .entry-line .ensures) (at-start .start .given .1) (at-source-on .source-on .result)
-    (at-source-on .source-on .ensures) (at-fault .fault .given .1) (c .refused-at .ensures)
+    turn-refused (loop .inv) (at-entry-line .entry-line .ensures) (at-start .start .given .1) (at-next-source .next-source .result)
+    (at-next-source .next-source .ensures) (at-fault .fault .given .1) (c .refused-at .ensures)
 
 pub find-sources-spec : {M : Type 1} → statement M
 find-sources-spec =
@@ -97,9 +97,9 @@ find-sources-spec =
     (λ c κs. search needs)
     returns-2
     (λ c. search needs)
-    sub-source-on
-    part-source-on-start
-    part-source-on-end
+    sub-next-source
+    part-next-source-start
+    part-next-source-end
     (λ c κs. search needs)
     (λ c. search needs)
     loop-less

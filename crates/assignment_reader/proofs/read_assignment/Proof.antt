@@ -5,7 +5,7 @@ use lib.ListN.{length, replicate}
 use denote.Ref.{now}
 use Rattle.graph.specs.Refusal.{filled}
 use Rattle.edge_reader.proofs.Whole.{row-kept, column-kept, weight-kept, cleared-again}
-use Rattle.assignment_reader.proofs.Whole.{lengths-four, Tested, tested-by, lent-refused, lent-cleared, bounds-cleared, read-few, answered-read, answered-refused}
+use Rattle.assignment_reader.proofs.Whole.{lengths-four, TextTested, tested-by, lent-refused, lent-cleared, bounds-cleared, read-few, answered-read, answered-refused}
 use borrow.Author.Needs.{needs}
 use Rattle.assignment_reader.proofs.read_assignment.Statement.{statement}
 use Rattle.assignment_reader.proofs.read_assignment.Tie as tie
@@ -19,7 +19,7 @@ begun c = emptied c .before .before .before .before .before .before .before
 
 tested : (c : tie.After-check-text) →
     let a = begun c .args in
-    Tested (length (now (a .row))) (length (now (a .column))) (length (now (a .weight))) (length (now (a .bound))) (now (a .text)) (c .check-text .result)
+    TextTested (length (now (a .row))) (length (now (a .column))) (length (now (a .weight))) (length (now (a .bound))) (now (a .text)) (c .check-text .result)
 tested c =
     let lent = c .before in
     let edges = lent .before in
@@ -30,8 +30,8 @@ tested c =
     (lent .both3 .ensures))
     (c .check-text .result) (c .check-text .ensures)
 
-read-lines-requires : tie.Need-read-lines-requires
-read-lines-requires c κs =
+read-assignment-lines-requires : tie.Need-read-assignment-lines-requires
+read-assignment-lines-requires c κs =
     let at-enum-told = c .before .before .before in
     let at-check-text = at-enum-told .before .before in
     let clear = at-check-text .before .before .before .before .before .before .before .before .before .before .before .before .clear in
@@ -40,13 +40,13 @@ read-lines-requires c κs =
 set-bounds-requires : tie.Need-set-bounds-requires
 set-bounds-requires c κs =
     let at-s = c .before .before .before in
-    let at-read-lines = at-s .before .before .before .before .before .before .before in
-    let at-enum-told = at-read-lines .before .before .before .before in
+    let at-read-assignment-lines = at-s .before .before .before .before .before .before .before in
+    let at-enum-told = at-read-assignment-lines .before .before .before .before in
     let at-check-text = at-enum-told .before .before in
     let clear-integers = at-check-text .before .before .before .before .before .clear-integers in
     let T = tested at-check-text in
     let passed = at-enum-told .enum-told .given .1 in
-    (bounds-cleared T passed (clear-integers .ensures), rw (c .vertex-count .ensures) (read-few T passed (at-read-lines .read-lines .ensures) (at-s .s .given .1)))
+    (bounds-cleared T passed (clear-integers .ensures), rw (c .vertex-count .ensures) (read-few T passed (at-read-assignment-lines .read-assignment-lines .ensures) (at-s .s .given .1)))
 
 returns : tie.Need-returns
 returns c =
@@ -57,57 +57,57 @@ returns c =
 
 same-length-5 : tie.Need-same-length-5
 same-length-5 c =
-    let at-read-lines = c .before .before .before .before .before .before .before .before .before .before .before .before in
-    let clear = at-read-lines .before .before .before .before .before .before .before .before .before .before .before .before .before .before .before
+    let at-read-assignment-lines = c .before .before .before .before .before .before .before .before .before .before .before .before in
+    let clear = at-read-assignment-lines .before .before .before .before .before .before .before .before .before .before .before .before .before .before .before
     .before .before .before .clear in
-    at-read-lines .read-lines .kept .1 .0 ∙ row-kept (clear .ensures)
+    at-read-assignment-lines .read-assignment-lines .kept .1 .0 ∙ row-kept (clear .ensures)
 
 returns-2 : tie.Need-returns-2
 returns-2 c =
     let at-vertex-count = c .before .before in
     let at-s = at-vertex-count .before .before .before in
-    let at-read-lines = at-s .before .before .before .before .before .before .before in
-    let at-enum-told = at-read-lines .before .before .before .before in
+    let at-read-assignment-lines = at-s .before .before .before .before .before .before .before in
+    let at-enum-told = at-read-assignment-lines .before .before .before .before in
     let at-check-text = at-enum-told .before .before in
-    answered-read (tested at-check-text) (at-enum-told .enum-told .given .1) (at-read-lines .read-lines .ensures) (at-s .s .given .1)
+    answered-read (tested at-check-text) (at-enum-told .enum-told .given .1) (at-read-assignment-lines .read-assignment-lines .ensures) (at-s .s .given .1)
     (c .before .set-bounds .ensures ∙ ap (λ k. filled 128 (pos 0) (replicate k (pos 1))) (at-vertex-count .vertex-count .ensures))
 
 same-length-9 : tie.Need-same-length-9
 same-length-9 c =
     let at-clear2 = c .before .before .before .before .before in
-    let at-read-lines = at-clear2 .before .before .before .before .before .before .before .before .before .before .before .before in
-    let clear = at-read-lines .before .before .before .before .before .before .before .before .before .before .before .before .before .before .before
+    let at-read-assignment-lines = at-clear2 .before .before .before .before .before .before .before .before .before .before .before .before in
+    let clear = at-read-assignment-lines .before .before .before .before .before .before .before .before .before .before .before .before .before .before .before
     .before .before .before .clear in
-    at-clear2 .clear2 .kept .0 ∙ at-read-lines .read-lines .kept .1 .0 ∙ row-kept (clear .ensures)
+    at-clear2 .clear2 .kept .0 ∙ at-read-assignment-lines .read-assignment-lines .kept .1 .0 ∙ row-kept (clear .ensures)
 
 same-length-10 : tie.Need-same-length-10
 same-length-10 c =
     let at-clear2 = c .before .before .before .before .before in
-    let at-read-lines = at-clear2 .before .before .before .before .before .before .before .before .before .before .before .before in
-    let clear = at-read-lines .before .before .before .before .before .before .before .before .before .before .before .before .before .before .before
+    let at-read-assignment-lines = at-clear2 .before .before .before .before .before .before .before .before .before .before .before .before in
+    let clear = at-read-assignment-lines .before .before .before .before .before .before .before .before .before .before .before .before .before .before .before
     .before .before .before .clear in
-    at-clear2 .clear2 .kept .1 .0 ∙ at-read-lines .read-lines .kept .1 .1 .0 ∙ column-kept (clear .ensures)
+    at-clear2 .clear2 .kept .1 .0 ∙ at-read-assignment-lines .read-assignment-lines .kept .1 .1 .0 ∙ column-kept (clear .ensures)
 
 same-length-11 : tie.Need-same-length-11
 same-length-11 c =
     let at-clear2 = c .before .before .before .before .before in
-    let at-read-lines = at-clear2 .before .before .before .before .before .before .before .before .before .before .before .before in
-    let clear = at-read-lines .before .before .before .before .before .before .before .before .before .before .before .before .before .before .before
+    let at-read-assignment-lines = at-clear2 .before .before .before .before .before .before .before .before .before .before .before .before in
+    let clear = at-read-assignment-lines .before .before .before .before .before .before .before .before .before .before .before .before .before .before .before
     .before .before .before .clear in
-    at-clear2 .clear2 .kept .1 .1 .0 ∙ at-read-lines .read-lines .kept .1 .1 .1 .0 ∙ weight-kept (clear .ensures)
+    at-clear2 .clear2 .kept .1 .1 .0 ∙ at-read-assignment-lines .read-assignment-lines .kept .1 .1 .1 .0 ∙ weight-kept (clear .ensures)
 
 returns-3 : tie.Need-returns-3
 returns-3 c =
     let at-clear2 = c .before .before .before .before .before in
     let at-r2 = at-clear2 .before .before .before .before .before in
-    let at-read-lines = at-r2 .before .before .before .before .before .before .before in
-    let at-enum-told = at-read-lines .before .before .before .before in
+    let at-read-assignment-lines = at-r2 .before .before .before .before .before .before .before in
+    let at-enum-told = at-read-assignment-lines .before .before .before .before in
     let at-check-text = at-enum-told .before .before in
     let at-clear-integers = at-check-text .before .before .before .before .before in
     let clear = at-clear-integers .before .before .before .before .before .before .before .clear in
-    let kept = at-read-lines .read-lines .kept .1 in
+    let kept = at-read-assignment-lines .read-assignment-lines .kept .1 in
     let zeros = clear .ensures in
-    answered-refused (tested at-check-text) (at-enum-told .enum-told .given .1) (at-read-lines .read-lines .ensures) (at-r2 .r2 .given .1)
+    answered-refused (tested at-check-text) (at-enum-told .enum-told .given .1) (at-read-assignment-lines .read-assignment-lines .ensures) (at-r2 .r2 .given .1)
     (cleared-again (at-clear2 .clear2 .ensures) (kept .0 ∙ row-kept zeros) (kept .1 .0 ∙ column-kept zeros) (kept .1 .1 .0 ∙ weight-kept zeros))
     (at-clear-integers .clear-integers .ensures)
 
@@ -123,7 +123,7 @@ read-assignment-spec =
     (λ c κs. search needs)
     (λ c. search needs)
     (λ c. search needs)
-    read-lines-requires
+    read-assignment-lines-requires
     (λ c. search needs)
     (λ c κs. search needs)
     set-bounds-requires

@@ -6,7 +6,7 @@ use borrow.Author.Needs.{needs}
 use denote.Ref.{now}
 use lib.IntN.{ℤ, pos, negℤ}
 use lib.ListN.{getD, length-set}
-use Rattle.writer.proofs.Parts.{Part}
+use Rattle.digits.proofs.Parts.{Part}
 use Rattle.assignment_writer.proofs.Lines.{arcFront, arc-part, arc-put}
 use Rattle.assignment_writer.proofs.put_arc.Statement.{statement}
 use Rattle.assignment_writer.proofs.put_arc.Tie as tie

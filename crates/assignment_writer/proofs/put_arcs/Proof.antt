@@ -8,7 +8,7 @@ use Rattle.graph.specs.Graph.{Graph, graphOf}
 use Rattle.layout.specs.Text.{unlines}
 use Rattle.layout.specs.AssignmentText.{arcLines}
 use Rattle.assignments.proofs.Fits.{arcs-growing, arc-text-le}
-use Rattle.writer.proofs.Over.{puts-same}
+use Rattle.digits.proofs.Over.{puts-same}
 use Rattle.writer.proofs.Writing.{LinesWriting, lines-start, lines-room, lines-more, lines-end}
 use Rattle.assignment_writer.proofs.put_arcs.Statement.{statement}
 use Rattle.assignment_writer.proofs.put_arcs.Tie as tie

@@ -27,8 +27,8 @@ returns c =
     let w = refused (graph s) (now (s .args .bound)) (room s) (tests .check-assignment .ensures) (refusal .r .given .1) in
     (sym (ap (λ (o : Outcome (List ℕ)). told (reported length o)) w), c .before .before .clear-bytes .ensures ∙ sym (ap (output (room s) 0 (λ t. t)) w))
 
-put-assignment-requires : tie.Need-put-assignment-requires
-put-assignment-requires c κs =
+answer-assignment-requires : tie.Need-answer-assignment-requires
+answer-assignment-requires c κs =
     let tests = c .before .before .before in
     let s = tests .before .before .before .before in
     let says = tests .check-assignment .ensures in
@@ -44,8 +44,8 @@ returns-2 c =
     let is = told-passed .enum-told .given .1 in
     let text = yielded (graph s) (now (s .args .bound)) (room s) says is in
     let long = size (graph s) (now (s .args .bound)) (room s) says is in
-    let w = c .before .before .put-assignment .ensures in
-    (answered text long w, filled-in text long w)
+    let a = c .before .before .answer-assignment in
+    (answered text long (a .last .0) (a .result) (a .ensures), filled-in text long (a .last .0) (a .result) (a .ensures))
 
 pub write-assignment-spec : {M : Type 1} → statement M
 write-assignment-spec =
@@ -57,6 +57,6 @@ write-assignment-spec =
     (λ c. search needs)
     returns
     (λ c. search needs)
-    put-assignment-requires
+    answer-assignment-requires
     (λ c. search needs)
     returns-2)

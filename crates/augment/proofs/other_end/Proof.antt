@@ -1,10 +1,9 @@
 -- `augment::other_end` meets its contract: each arm is one case of it.
 use mathlib.Core.Path.{_∙_, sym}
 use borrow.Author.Needs.{needs}
-use Rattle.tree.proofs.Leading.{if-same, if-other}
+use Rattle.method.proofs.Leading.{if-same, if-other}
 use Rattle.augment.proofs.other_end.Statement.{statement}
 use Rattle.augment.proofs.other_end.Tie as tie
-use Rattle.tree.proofs.ends_at.Reads as ends-at-reads
 
 returns : tie.Need-returns
 returns c = let ends = c .before .before .ends-at .ensures in ends .1 ∙ sym (if-same _ _ (c .if1 .taken ∙ ends .0))

@@ -5,9 +5,10 @@ use native.Mathlib.Omega.{arith}
 use borrow.Author.Needs.{needs}
 use Rattle.graph.specs.Refusal.{yields, lowest}
 use Rattle.graph.specs.Graph.{Graph, graphOf}
-use Rattle.checks.specs.declared.Lowest.{Lowest}
-use Rattle.checks.specs.Checks.{lowestSays, checkSays}
-use Rattle.checks.proofs.Scan.{says}
+use Rattle.lowest.specs.declared.Lowest.{Lowest}
+use Rattle.lowest.specs.Lowest.{lowestSays}
+use Rattle.checks.specs.Checks.{checkSays}
+use Rattle.lowest.proofs.Scan.{says}
 use Rattle.checks.proofs.Refusals.{sizesKept, endsKept, weightKept, newEnds, sizes-refused, ends-refused, weight-refused, same-refused, none-refused}
 use Rattle.checks.proofs.Shown.{among, flagged}
 use Rattle.checks.proofs.check_graph.Statement.{statement}
@@ -29,12 +30,12 @@ ends-say : (c : tie.After-lowest-ends) {m : Lowest} → c .lowest-ends .result �
     lowest (start (c .before) .args .s .edges) (endsKept (graph (start (c .before)))) ≡ lowestSays m
 ends-say c is = says (endsKept (graph (start (c .before)))) (c .lowest-ends .ensures) is (start (c .before) .pre .0)
 
-weights-say : (c : tie.After-lowest-outside) {m : Lowest} →
+weights-say : (c : tie.After-lowest-weight) {m : Lowest} →
     let at-then1 = c .before .before .before .before in
-    c .lowest-outside .result ≡ m → lowest (start at-then1 .args .s .edges) (weightKept (graph (start at-then1))) ≡ lowestSays m
+    c .lowest-weight .result ≡ m → lowest (start at-then1 .args .s .edges) (weightKept (graph (start at-then1))) ≡ lowestSays m
 weights-say c is =
     let at-then1 = c .before .before .before .before in
-    says (weightKept (graph (start at-then1))) (c .lowest-outside .ensures) is (start at-then1 .pre .2)
+    says (weightKept (graph (start at-then1))) (c .lowest-weight .ensures) is (start at-then1 .pre .2)
 
 ends-again : (c : tie.After-lowest-repeat) {m : Lowest} →
     let at-then1 = c .before .before .before .before .before .before .before in
@@ -62,22 +63,22 @@ returns c =
 refused-item-requires-2 : tie.Need-refused-item-requires-2
 refused-item-requires-2 c κs =
     let e2 = c .before .e2 in
-    let at-lowest-outside = c .before .before .before in
-    let at-then1 = at-lowest-outside .before .before .before .before in
+    let at-lowest-weight = c .before .before .before in
+    let at-then1 = at-lowest-weight .before .before .before .before in
     let beginning = at-then1 .before .before .before .before in
-    among (graph beginning) (weightKept (graph beginning)) (e2 .given .0 .0) (sizes at-then1) (weights-say at-lowest-outside (e2 .given .1))
+    among (graph beginning) (weightKept (graph beginning)) (e2 .given .0 .0) (sizes at-then1) (weights-say at-lowest-weight (e2 .given .1))
 
 returns-2 : tie.Need-returns-2
 returns-2 c =
     let e2 = c .before .before .e2 in
-    let at-lowest-outside = c .before .before .before .before in
-    let at-enum-told = at-lowest-outside .before in
+    let at-lowest-weight = c .before .before .before .before in
+    let at-enum-told = at-lowest-weight .before in
     let at-lowest-ends = at-enum-told .before .before in
     let at-then1 = at-lowest-ends .before in
     let beginning = at-then1 .before .before .before .before in
     c .refused-item2 .ensures
     ∙ weight-refused (graph beginning) (yields tt) (sizes at-then1) (ends-say at-lowest-ends (at-enum-told .enum-told .given .1))
-    (e2 .given .0 .0) (weights-say at-lowest-outside (e2 .given .1))
+    (e2 .given .0 .0) (weights-say at-lowest-weight (e2 .given .1))
 
 lowest-repeat-requires : tie.Need-lowest-repeat-requires
 lowest-repeat-requires c κs =
@@ -100,26 +101,26 @@ returns-3 c =
     let e3 = c .before .before .e3 in
     let at-lowest-repeat = c .before .before .before .before in
     let at-enum-told2 = at-lowest-repeat .before in
-    let at-lowest-outside = at-enum-told2 .before .before in
-    let at-enum-told = at-lowest-outside .before in
+    let at-lowest-weight = at-enum-told2 .before .before in
+    let at-enum-told = at-lowest-weight .before in
     let at-lowest-ends = at-enum-told .before .before in
     let at-then1 = at-lowest-ends .before in
     let beginning = at-then1 .before .before .before .before in
     c .refused-item3 .ensures
     ∙ same-refused (graph beginning) (yields tt) (sizes at-then1) (ends-say at-lowest-ends (at-enum-told .enum-told .given .1))
-    (weights-say at-lowest-outside (at-enum-told2 .enum-told2 .given .1)) (e3 .given .0 .0) (ends-again at-lowest-repeat (e3 .given .1))
+    (weights-say at-lowest-weight (at-enum-told2 .enum-told2 .given .1)) (e3 .given .0 .0) (ends-again at-lowest-repeat (e3 .given .1))
 
 returns-4 : tie.Need-returns-4
 returns-4 c =
     let at-lowest-repeat = c .before .before in
     let at-enum-told2 = at-lowest-repeat .before in
-    let at-lowest-outside = at-enum-told2 .before .before in
-    let at-enum-told = at-lowest-outside .before in
+    let at-lowest-weight = at-enum-told2 .before .before in
+    let at-enum-told = at-lowest-weight .before in
     let at-lowest-ends = at-enum-told .before .before in
     let at-then1 = at-lowest-ends .before in
     let beginning = at-then1 .before .before .before .before in
     none-refused (graph beginning) (yields tt) (sizes at-then1) (ends-say at-lowest-ends (at-enum-told .enum-told .given .1))
-    (weights-say at-lowest-outside (at-enum-told2 .enum-told2 .given .1)) (ends-again at-lowest-repeat (c .enum-told3 .given .1))
+    (weights-say at-lowest-weight (at-enum-told2 .enum-told2 .given .1)) (ends-again at-lowest-repeat (c .enum-told3 .given .1))
 
 returns-5 : tie.Need-returns-5
 returns-5 c =

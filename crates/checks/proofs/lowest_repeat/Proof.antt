@@ -6,13 +6,13 @@ use mathlib.Core.List.{List}
 use native.Mathlib.Omega.{arith}
 use lib.ListN.{length, getD}
 use Rattle.checks.specs.Checks.{Flagged, joinedIn, Seen}
-use Rattle.checks.proofs.Scan.{Kept, kept-none, kept-more, kept-broken, kept-all}
+use Rattle.lowest.proofs.Scan.{KeptBelow, kept-none, kept-more, kept-broken, kept-all}
 use Rattle.checks.proofs.Table.{seen-start, seen-flag, seen-note}
 use Rattle.checks.proofs.lowest_repeat.Statement.{statement}
 use Rattle.checks.proofs.lowest_repeat.Tie as tie
 
 abbrev Inv-loop : tie.InvT-loop
-Inv-loop row column flags₀ e₀ flags e = Kept (length row) (λ k. not (joinedIn row column k (getD row k 0) (getD column k 0))) e × Seen flags row column e
+Inv-loop row column flags₀ e₀ flags e = KeptBelow (length row) (λ k. not (joinedIn row column k (getD row k 0) (getD column k 0))) e × Seen flags row column e
 
 abbrev μ-loop : tie.MeasureT-loop
 μ-loop row column flags₀ e₀ flags e = length row - e

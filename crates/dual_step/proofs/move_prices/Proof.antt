@@ -1,7 +1,7 @@
 -- `dual_step::move_prices` meets its contract: the loop keeps which vertices have moved.
 use Prim.Native.Nat.{_-_, _≤_}
 use native.Mathlib.Omega.{arith}
-use Rattle.tree.specs.Tree.{entries}
+use Rattle.method.specs.Tree.{entries}
 use Rattle.dual_step.proofs.Loops.{Moving, moving-none, may-fall, still-under, moving-more, moving-end}
 use Rattle.dual_step.proofs.move_prices.Statement.{statement}
 use Rattle.dual_step.proofs.move_prices.Tie as tie

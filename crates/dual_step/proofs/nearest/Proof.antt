@@ -2,8 +2,8 @@
 use Prim.Native.Nat.{_-_, _≤_}
 use mathlib.Core.Path.{refl}
 use native.Mathlib.Omega.{arith}
-use Rattle.tree.specs.Tree.{entries}
-use Rattle.tree.specs.Front.{Nearest}
+use Rattle.method.specs.Tree.{entries}
+use Rattle.method.specs.Front.{Nearest}
 use Rattle.dual_step.proofs.Loops.{nearest-none, nearest-more, nearest-end}
 use Rattle.dual_step.proofs.nearest.Statement.{statement}
 use Rattle.dual_step.proofs.nearest.Tie as tie

@@ -5,15 +5,15 @@ use borrow.Author.Needs.{needs}
 use Rattle.edge_reader.proofs.next_coordinate.Statement.{statement}
 use Rattle.edge_reader.proofs.next_coordinate.Tie as tie
 
-edge-on-requires : tie.Need-edge-on-requires
-edge-on-requires c κs =
+coordinate-on-requires : tie.Need-coordinate-on-requires
+coordinate-on-requires c κs =
     let found = later-found (c .before .before .before .later-line .ensures) (c .before .start .given .1) .0 in
     (found .forward, found .ends)
 
 brings-requires : tie.Need-brings-requires
 brings-requires c κs =
     let start = c .before .before .before .before .before .before in
-    weight-ranged (start .args .s) (c .edge-on .result) (c .edge-on .ensures .1)
+    weight-ranged (start .args .s) (c .coordinate-on .result) (c .coordinate-on .ensures .1)
 
 returns : tie.Need-returns
 returns c =
@@ -34,7 +34,7 @@ returns-3 c =
     let start = at-later-line .before .before in
     let args = start .args in
     coordinates-line (args .rules) (args .field) (at-later-line .later-line .ensures) (args .s) (at-start .start .given .1)
-    (c .before .edge-on .result) (c .before .edge-on .ensures .0) (c .before .edge-on .ensures .1) (c .brings .ensures)
+    (c .before .coordinate-on .result) (c .before .coordinate-on .ensures .0) (c .before .coordinate-on .ensures .1) (c .brings .ensures)
 
 pub next-coordinate-spec : {M : Type 1} → statement M
 next-coordinate-spec =
@@ -44,7 +44,7 @@ next-coordinate-spec =
     (λ c. search needs)
     (λ c. search needs)
     (λ c. search needs)
-    edge-on-requires
+    coordinate-on-requires
     brings-requires
     returns
     returns-2

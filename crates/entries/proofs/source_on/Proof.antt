@@ -1,7 +1,7 @@
 -- `source_on` reads the words after `n`.
 use denote.Ref.{now}
 use Rattle.layout.specs.Text.{words}
-use Rattle.text.specs.declared.Natural.the-variants as Natural
+use Rattle.spelling.specs.declared.Natural.the-variants as Natural
 use Rattle.entries.proofs.Lines.{source-as}
 use borrow.Author.Needs.{needs}
 use Rattle.entries.proofs.source_on.Statement.{statement}

@@ -3,7 +3,7 @@ use denote.Ref.{now}
 use mathlib.Core.Path.{sym, ap, _∙_}
 use borrow.Author.Needs.{needs}
 use Rattle.layout.specs.GraphText.{fieldWord}
-use Rattle.text.specs.Cursor.{kindTold}
+use Rattle.headers.specs.Headers.{kindTold}
 use Rattle.graph_reader.proofs.header_on.Statement.{statement}
 use Rattle.graph_reader.proofs.header_on.Tie as tie
 

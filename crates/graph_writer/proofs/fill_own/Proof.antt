@@ -4,7 +4,7 @@ use mathlib.Core.Path.{_≡_, refl}
 use native.Mathlib.Omega.{arith}
 use borrow.Author.Needs.{needs}
 use lib.ListN.{length}
-use Rattle.lent.proofs.Setting.{Filling, fill-none, fill-more}
+use Rattle.filling.proofs.Setting.{Filling, fill-none, fill-more}
 use Rattle.graph_writer.proofs.fill_own.Statement.{statement}
 use Rattle.graph_writer.proofs.fill_own.Tie as tie
 

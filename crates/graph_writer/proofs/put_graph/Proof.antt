@@ -27,8 +27,8 @@ loop-holds c =
 cast-e : tie.Need-cast-e Inv-loop μ-loop
 cast-e c = omega (arith, c .before .before .before .before .before .before .before .shared-slice-known3 .given (c .before .before .loop .k))
 
-put-edge-requires : tie.Need-put-edge-requires Inv-loop μ-loop
-put-edge-requires c κs =
+put-weighted-edge-requires : tie.Need-put-weighted-edge-requires Inv-loop μ-loop
+put-weighted-edge-requires c κs =
     let O = c .before .before .before .before .before .before .before .before .before .before .before .before .pre .1 in
     let l = c .before .before .before .loop in
     let lt = c .before .before .loop-test .taken in
@@ -39,7 +39,7 @@ loop-again c =
     let O = c .before .before .before .before .before .before .before .before .before .before .before .before .before .before .before .pre .1 in
     let l = c .before .before .before .before .before .before .loop in
     let lt = c .before .before .before .before .before .loop-test .taken in
-    let p = c .before .before .put-edge in
+    let p = c .before .before .put-weighted-edge in
     edges-more O (l .k) (omega arith) (l .inv) (p .kept .0) (p .ensures)
 
 same-length : tie.Need-same-length Inv-loop μ-loop
@@ -62,7 +62,7 @@ put-graph-spec =
     (λ c. search needs)
     (λ c. search needs)
     cast-e
-    put-edge-requires
+    put-weighted-edge-requires
     (λ c. search needs)
     (λ c. omega arith)
     loop-again

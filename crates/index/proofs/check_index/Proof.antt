@@ -1,7 +1,8 @@
 -- Each return is what the tests yield where the first that refuses is that one.
 use mathlib.Core.Path.{_∙_}
 use Rattle.graph.specs.Graph.{Graph, graphOf}
-use Rattle.index.proofs.Tested.{sound, size, test-refused, index-left}
+use Rattle.index_builder.proofs.Built.{sound, size}
+use Rattle.index.proofs.Tested.{test-refused, index-left}
 use lib.ListN.{length}
 use borrow.Author.Needs.{needs}
 use Rattle.index.proofs.check_index.Statement.{statement}

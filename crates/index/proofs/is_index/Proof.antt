@@ -5,7 +5,7 @@ use mathlib.Core.List.{[]}
 use native.Mathlib.Omega.{arith}
 use lib.ListN.{length}
 use Rattle.graph.specs.Graph.{Graph, graphOf}
-use Rattle.index.specs.Building.{Standing}
+use Rattle.index.specs.Testing.{Standing}
 use Rattle.index.proofs.Standing.{standing-none, standing-all}
 use Rattle.index.proofs.is_index.Statement.{statement}
 use Rattle.index.proofs.is_index.Tie as tie

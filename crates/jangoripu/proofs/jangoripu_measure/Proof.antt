@@ -13,7 +13,7 @@ returns : tie.Need-returns
 returns c =
     let m = c .before .before .before .m .given in
     let fits = c .before .struct-told .given in
-    let given = c .before .before .before .before .before .before .shape-of .ensures in
+    let given = c .before .before .before .before .before .before .shape-given .ensures in
     rw (
       back w64 (m .0 .0 .weight) (fits .0 .1),
       back w64 (m .0 .0 .total) (fits .1 .0 .1),
@@ -34,7 +34,7 @@ returns-2 c =
     let done = c .before .before .before .before .before .before .measure .ensures in
     let r = c .before .before .before .before .refusal .given in
     let told = c .tell .ensures in
-    let given = c .before .before .before .before .before .before .before .shape-of .ensures in
+    let given = c .before .before .before .before .before .before .before .shape-given .ensures in
     rw (told .0, told .1, ← given .0, ← given .1, ← given .2, ← given .3)
     (measuring-told (refuses (r .0 .0 .fault) (r .0 .0 .place)) (sym (ap measureSays (r .1)) ∙ done))
 

@@ -11,7 +11,7 @@ returns : tie.Need-returns
 returns c =
     let at-solve = c .before .before .before .before .before .before .before in
     let done = at-solve .solve .ensures in
-    let given = at-solve .before .before .before .before .before .shape-of .ensures in
+    let given = at-solve .before .before .before .before .before .shape-given .ensures in
     rw (← given .0, ← given .1, ← given .2, ← given .3) (graph-solved (yields tt) (sym (ap solveSays (c .enum-told .given .1)) ∙ done .0) (done .1))
 
 returns-2 : tie.Need-returns-2
@@ -19,7 +19,7 @@ returns-2 c =
     let done = c .before .before .before .before .before .before .before .before .before .before .solve .ensures in
     let r = c .before .before .before .refusal .given in
     let told = c .tell .ensures in
-    let given = c .before .before .before .before .before .before .before .before .before .before .before .before .before .before .before .shape-of .ensures in
+    let given = c .before .before .before .before .before .before .before .before .before .before .before .before .before .before .before .shape-given .ensures in
     rw (told .0, told .1, ← given .0, ← given .1, ← given .2, ← given .3)
     (graph-solved (refuses (r .0 .0 .fault) (r .0 .0 .place)) (sym (ap solveSays (r .1)) ∙ done .0) (done .1))
 

@@ -9,7 +9,7 @@ use Rattle.jangoripu.proofs.jangoripu_test_index.Tie as tie
 
 returns : tie.Need-returns
 returns c =
-    let given = c .before .before .before .shape-of .ensures in
+    let given = c .before .before .before .shape-given .ensures in
     rw (← given .0, ← given .1, ← given .2, ← given .3)
     (testing-told (yields tt) (sym (ap indexSays (c .enum-told .given .1)) ∙ c .before .before .test-index .ensures))
 
@@ -18,7 +18,7 @@ returns-2 c =
     let done = c .before .before .before .before .before .test-index .ensures in
     let r = c .before .before .before .refusal .given in
     let told = c .tell .ensures in
-    let given = c .before .before .before .before .before .before .shape-of .ensures in
+    let given = c .before .before .before .before .before .before .shape-given .ensures in
     rw (told .0, told .1, ← given .0, ← given .1, ← given .2, ← given .3)
     (testing-told (refuses (r .0 .0 .fault) (r .0 .0 .place)) (sym (ap indexSays (r .1)) ∙ done))
 

@@ -7,8 +7,8 @@ use Rattle.jangoripu.proofs.jangoripu_write_assignment.Tie as tie
 returns : tie.Need-returns
 returns c =
     let at-write-assignment = c .before .before .before .before in
-    let shape-of = at-write-assignment .before .before .shape-of in
-    rw (← shape-of .ensures .0, ← shape-of .ensures .1, ← shape-of .ensures .2, ← shape-of .ensures .3) (text-written
+    let shape-given = at-write-assignment .before .before .shape-given in
+    rw (← shape-given .ensures .0, ← shape-given .ensures .1, ← shape-given .ensures .2, ← shape-given .ensures .3) (text-written
     (at-write-assignment .write-assignment .result) (at-write-assignment .write-assignment .ensures .0)
     (at-write-assignment .write-assignment .ensures .1) (c .tell-text .ensures))
 

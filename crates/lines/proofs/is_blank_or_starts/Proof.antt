@@ -1,6 +1,5 @@
 -- `is_blank_or_starts` meets its contract, by the answers of the two tests.
 use mathlib.Core.Path.{sym, _∙_}
-use denote.Ref.{now}
 use Rattle.lines.proofs.Search.{or-first, or-second}
 use borrow.Author.Needs.{needs}
 use Rattle.lines.proofs.is_blank_or_starts.Statement.{statement}

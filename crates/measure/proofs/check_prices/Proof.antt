@@ -9,7 +9,7 @@ use Rattle.graph.specs.Refusal.{Test, yields, each}
 use Rattle.graph.specs.Graph.{boundAt}
 use Rattle.dual.specs.Prices.{pricesOf}
 use Rattle.dual.specs.Measure.{priceTest}
-use Rattle.checks.specs.Checks.{lowestSays}
+use Rattle.lowest.specs.Lowest.{lowestSays}
 use Rattle.checks.proofs.Tests.{first-refuses, second-refuses, none-refuses, place-fits}
 use native.Mathlib.Omega.{arith}
 use borrow.Author.Needs.{needs}

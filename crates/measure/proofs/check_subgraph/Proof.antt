@@ -8,9 +8,10 @@ use Rattle.graph.specs.Refusal.{Test, yields, once, lowest}
 use Rattle.graph.specs.Graph.{Graph, graphOf}
 use Rattle.graph.specs.Tests.{graphLengths, graphTests, boundTest, markTest}
 use Rattle.graph.specs.Passed.{Passed}
-use Rattle.checks.specs.declared.Lowest.{Lowest}
-use Rattle.checks.specs.Checks.{lowestSays, checkSays}
-use Rattle.checks.proofs.Scan.{says}
+use Rattle.lowest.specs.declared.Lowest.{Lowest}
+use Rattle.lowest.specs.Lowest.{lowestSays}
+use Rattle.checks.specs.Checks.{checkSays}
+use Rattle.lowest.proofs.Scan.{says}
 use Rattle.lent.proofs.Lengths.{lent-passed}
 use Rattle.checks.proofs.Tests.{part-refuses, part-passes, first-refuses, second-refuses, none-refuses, place-fits}
 use native.Mathlib.Omega.{arith}

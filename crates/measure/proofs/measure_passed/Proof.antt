@@ -9,8 +9,9 @@ use Rattle.graph.proofs.Passing.{passing-none}
 use Rattle.dual.specs.declared.Measures.{Measures}
 use Rattle.dual.specs.Prices.{Prices, pricesOf}
 use Rattle.dual.specs.Measure.{measures, setTest, coverTest, measureSays}
-use Rattle.checks.specs.declared.Lowest.{Lowest}
-use Rattle.checks.specs.Checks.{lowestSays, checkSays}
+use Rattle.lowest.specs.declared.Lowest.{Lowest}
+use Rattle.lowest.specs.Lowest.{lowestSays}
+use Rattle.checks.specs.Checks.{checkSays}
 use Rattle.checks.proofs.Tests.{first-refuses, place-fits}
 use Rattle.measure.specs.Shown.{priceTests, yieldsLater}
 use Rattle.measure.proofs.Shown.{prices-refused, last-decide}
@@ -75,8 +76,8 @@ returns c =
     let s = start p in
     ap told (prices-refused (graph s) (s .args .bound .now) (s .args .chosen .now) (prices s) (p .check-prices .result) (prices-say p) (c .before .r .given .1))
 
-refused-at-requires : tie.Need-refused-at-requires
-refused-at-requires c κs =
+refused-measure-requires : tie.Need-refused-measure-requires
+refused-measure-requires c κs =
     let l = c .before .before .before in
     let s = start2 l in
     place-fits (oddSets s .items) (oddSets s .keeps) (set-say l (c .before .k .given .1)) (omega arith)
@@ -85,7 +86,7 @@ returns-2 : tie.Need-returns-2
 returns-2 c =
     let l = c .before .before .before .before in
     let s = start2 l in
-    ap measureSays (c .refused-at .ensures)
+    ap measureSays (c .refused-measure .ensures)
     ∙ ap told
     (ap (refuses OddSet) (add-one _)
     ∙ decide (l .before .before) (first-refuses (oddSets s) (covers s) (answer s) (set-say l (c .before .before .k .given .1))))
@@ -146,7 +147,7 @@ measure-passed-spec =
     (λ c κs. search needs)
     (λ c κs. search needs)
     (λ c. search needs)
-    refused-at-requires
+    refused-measure-requires
     returns-2
     (λ c. search needs)
     covered-table-requires

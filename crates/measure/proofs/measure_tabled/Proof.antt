@@ -9,8 +9,8 @@ use Rattle.graph.proofs.Passing.{passing-none, passing-found}
 use Rattle.dual.specs.declared.Measures.{Measures}
 use Rattle.dual.specs.Prices.{Prices, pricesOf}
 use Rattle.dual.specs.Measure.{measures, coverTest, measureSays}
-use Rattle.checks.specs.declared.Lowest.{Lowest}
-use Rattle.checks.specs.Checks.{lowestSays}
+use Rattle.lowest.specs.declared.Lowest.{Lowest}
+use Rattle.lowest.specs.Lowest.{lowestSays}
 use Rattle.checks.proofs.Tests.{place-fits}
 use Rattle.measure.proofs.FromTables.{cover-say, measures-by}
 use native.Mathlib.Omega.{arith}
@@ -44,8 +44,8 @@ uncovered-say c is =
     let t = c .before .before .cover-table in
     cover-say (graph s) (s .args .bound .now) (s .args .chosen .now) (prices s) (t .last .1 .1 .1 .1 .1 .1 .1 .1 .1 .0) (t .ensures) (c .lowest-uncovered .ensures) is
 
-refused-at-requires : tie.Need-refused-at-requires
-refused-at-requires c κs =
+refused-measure-requires : tie.Need-refused-measure-requires
+refused-measure-requires c κs =
     let u = c .before .before .before in
     let s = start u in
     place-fits (covers s .items) (covers s .keeps) (uncovered-say u (c .before .e .given .1)) (omega (arith, s .pre .0 .passed .sound .sizes .few))
@@ -54,7 +54,7 @@ returns : tie.Need-returns
 returns c =
     let u = c .before .before .before .before in
     let s = start u in
-    ap measureSays (c .refused-at .ensures)
+    ap measureSays (c .refused-measure .ensures)
     ∙ ap told (ap (refuses Uncovered) (add-one _) ∙ sym (passing-found (covers s) [] (answer s) _ (uncovered-say u (c .before .before .e .given .1))))
 
 numbers-requires : tie.Need-numbers-requires
@@ -87,7 +87,7 @@ measure-tabled-spec =
     (λ c κs. search needs)
     (λ c κs. search needs)
     (λ c. search needs)
-    refused-at-requires
+    refused-measure-requires
     returns
     (λ c. search needs)
     numbers-requires

@@ -5,9 +5,9 @@ use native.Mathlib.Omega.{arith}
 use lib.ListN.{length, length-replicate}
 use Rattle.graph.specs.Limits.{mostVertices}
 use Rattle.graph.specs.Graph.{graphOf}
-use Rattle.tree.specs.Method.{level}
-use Rattle.tree.specs.Tree.{entries}
-use Rattle.tree.proofs.Solvable.{few, at-edge}
+use Rattle.method.specs.Method.{level}
+use Rattle.method.specs.Tree.{entries}
+use Rattle.method.proofs.Solvable.{few, at-edge}
 use Rattle.optimiser.specs.Optimiser.{Started}
 use Rattle.optimiser.proofs.Start.{start-none, start-more, start-end}
 use Rattle.optimiser.proofs.first_prices.Statement.{statement}

@@ -3,12 +3,12 @@ use native.Mathlib.Omega.{arith}
 use denote.Ref.{now}
 use Rattle.graph.specs.Limits.{mostVertices}
 use Rattle.graph.specs.Graph.{graphOf}
-use Rattle.tree.proofs.Solvable.{few, small, rows-in, rows-few}
+use Rattle.method.proofs.Solvable.{few, small, rows-in, rows-few}
 use Rattle.pricing.proofs.Paying.{payable}
 use Rattle.arcs.proofs.Rows.{given-by, bounds-kept}
 use Rattle.optimiser.specs.Optimiser.{BoundsTabled}
-use Rattle.optimiser.proofs.Start.{zeros, bounds-in, table-same, nothing-meets, begun}
-use Rattle.optimiser.proofs.Serving.{went-ill, went-well}
+use Rattle.optimiser.proofs.Start.{zero-entries, bounds-in, table-same, nothing-meets, begun}
+use Rattle.serving.proofs.Serving.{went-ill, went-well}
 use Rattle.optimiser.proofs.Final.{solved}
 use borrow.Author.Needs.{needs}
 use Rattle.optimiser.proofs.optimise.Statement.{statement}
@@ -66,7 +66,7 @@ serve-rows-requires c κs =
       given-by (pre .0) (kept .0) (kept .1 .0) (at-begin-lists .begin-lists .ensures) (later .1 .0 .2),
       (
         at-serving-order .serving-order .ensures,
-        (begun g (later .1 .1) (first .ensures) bounds (zeros mostVertices), (first .ok .1 .0 .1, omega arith, omega (arith, small (pre .0)))),
+        (begun g (later .1 .1) (first .ensures) bounds (zero-entries mostVertices), (first .ok .1 .0 .1, omega arith, omega (arith, small (pre .0)))),
       ),
     )
 

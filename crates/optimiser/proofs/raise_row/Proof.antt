@@ -2,8 +2,8 @@
 use Prim.Native.Nat.{_-_}
 use mathlib.Core.Path.{ap}
 use native.Mathlib.Omega.{arith}
-use Rattle.tree.specs.Method.{level}
-use Rattle.tree.proofs.Solvable.{value-in, weight-within}
+use Rattle.method.specs.Method.{level}
+use Rattle.method.proofs.Solvable.{value-in, weight-within}
 use Rattle.optimiser.proofs.Start.{raise-set, raise-kept}
 use borrow.Author.Needs.{needs}
 use Rattle.optimiser.proofs.raise_row.Statement.{statement}

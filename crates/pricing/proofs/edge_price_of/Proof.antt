@@ -1,6 +1,6 @@
 -- `pricing::edge_price_of` meets its contract.
 use native.Mathlib.Omega.{arith}
-use Rattle.tree.proofs.Solvable.{weight-within}
+use Rattle.method.proofs.Solvable.{weight-within}
 use Rattle.pricing.proofs.Paying.{first-few, second-few, cost-small, cost-is, unpaid, not-over, paid}
 use borrow.Author.Needs.{needs}
 use Rattle.pricing.proofs.edge_price_of.Statement.{statement}

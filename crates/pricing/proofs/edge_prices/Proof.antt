@@ -6,8 +6,8 @@ use lib.IntN.{pos}
 use lib.ListN.{length}
 use Rattle.graph.specs.Graph.{graphOf}
 use Rattle.dual.specs.Gap.{halfPoints}
-use Rattle.lent.proofs.Setting.{Filling, fill-none, fill-more}
-use Rattle.tree.specs.Tree.{entries}
+use Rattle.filling.proofs.Setting.{Filling, fill-none, fill-more}
+use Rattle.method.specs.Tree.{entries}
 use Rattle.pricing.specs.Pricing.{edgePriceOf}
 use Rattle.pricing.proofs.edge_prices.Statement.{statement}
 use Rattle.pricing.proofs.edge_prices.Tie as tie

@@ -5,9 +5,9 @@ use native.Mathlib.Omega.{arith}
 use lib.IntN.{pos}
 use lib.ListN.{length}
 use Rattle.dual.specs.Gap.{halfPoints}
-use Rattle.lent.proofs.Setting.{Filling, fill-none, fill-more}
-use Rattle.tree.specs.Method.{level}
-use Rattle.tree.specs.Tree.{entries}
+use Rattle.filling.proofs.Setting.{Filling, fill-none, fill-more}
+use Rattle.method.specs.Method.{level}
+use Rattle.method.specs.Tree.{entries}
 use Rattle.pricing.proofs.vertex_prices.Statement.{statement}
 use Rattle.pricing.proofs.vertex_prices.Tie as tie
 

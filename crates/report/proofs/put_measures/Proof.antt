@@ -14,11 +14,11 @@ returns c =
 
 returns-2 : tie.Need-returns-2
 returns-2 c =
-    let put-line = c .before .before .put-line in
+    let put-measured-line = c .before .before .put-measured-line in
     let at-if1 = c .before .before .before .before in
     let at-clear-bytes = at-if1 .before .before .before in
     let s = at-clear-bytes .before .before .before in
-    text-composed 256 (measuredLine (s .args .m)) (now (s .args .out)) (at-clear-bytes .clear-bytes .ensures) (at-if1 .if1 .left) (put-line .ensures)
+    text-composed 256 (measuredLine (s .args .m)) (now (s .args .out)) (at-clear-bytes .clear-bytes .ensures) (at-if1 .if1 .left) (put-measured-line .ensures)
 
 pub put-measures-spec : {M : Type 1} → statement M
 put-measures-spec =

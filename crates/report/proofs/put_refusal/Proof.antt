@@ -15,7 +15,7 @@ same-length c =
     let number = at .before .before .before .before .before in
     let first = number .before .before .before .before in
     simp length-set
-    (file .put-source .kept .0 ∙ inside .put-bytes3 .kept .0 ∙ place .put-natural2 .kept .0 ∙ at .put-bytes2 .kept .0 ∙ number .put-natural .kept .0
+    (file .put-source-name .kept .0 ∙ inside .put-bytes3 .kept .0 ∙ place .put-decimal2 .kept .0 ∙ at .put-bytes2 .kept .0 ∙ number .put-decimal .kept .0
     ∙ first .put-bytes .kept .0)
 
 returns : tie.Need-returns
@@ -30,11 +30,11 @@ returns c =
     let s = numbered .before .before in
     refusal-put (s .args .source) (s .args .refusal .fault) (s .args .refusal .place) (numbered .number .result) (s .pre) (numbered .number .ensures)
     (first .put-bytes .ensures)
-    (number .put-natural .ensures)
+    (number .put-decimal .ensures)
     (at .put-bytes2 .ensures)
-    (place .put-natural2 .ensures)
+    (place .put-decimal2 .ensures)
     (inside .put-bytes3 .ensures)
-    (file .put-source .ensures)
+    (file .put-source-name .ensures)
 
 pub put-refusal-spec : {M : Type 1} → statement M
 put-refusal-spec =

@@ -1,7 +1,7 @@
 -- `scan::list_of` meets its contract.
 use mathlib.Core.Path.{sym}
 use native.Mathlib.Omega.{arith}
-use Rattle.tree.proofs.Tests.{if-less, if-not-less}
+use Rattle.method.proofs.Tests.{if-less, if-not-less}
 use borrow.Author.Needs.{needs}
 use Rattle.scan.proofs.list_of.Statement.{statement}
 use Rattle.scan.proofs.list_of.Tie as tie

@@ -5,10 +5,11 @@ use native.Mathlib.Omega.{arith}
 use denote.Ref.{now}
 use Rattle.graph.specs.Limits.{mostVertices}
 use Rattle.graph.specs.Graph.{graphOf}
-use Rattle.tree.specs.Tree.{entries, naturals}
-use Rattle.tree.specs.Lists.{starts, leasts}
-use Rattle.tree.proofs.Solvable.{few, small, weight-within}
+use Rattle.method.specs.Tree.{entries, naturals}
+use Rattle.method.specs.Lists.{starts, leasts}
+use Rattle.method.proofs.Solvable.{few, small, weight-within}
 use Rattle.scan.specs.Scan.{listStart, listStop, Scanning, ColumnScan}
+use Rattle.reach.proofs.Picking.{stays}
 use Rattle.scan.proofs.Looking as Looking
 use Rattle.scan.proofs.Column as Column
 use Rattle.scan.proofs.scan_column.Statement.{statement}
@@ -108,8 +109,8 @@ add-h c =
     let inv = turn .before .loop .inv in
     let at = inv .0 (start .pre .1 .1) in
     let edge = c .before .before .natural-at .ensures in
-    let worth = c .value-at .ensures in
-    omega (arith, Column.worth-small (start .pre .0) (start .pre .1 .1) (at .1) (inv .1) (at .0) (before-stop turn) edge worth, start .pre .1 .0 .1)
+    let raised = c .value-at .ensures in
+    omega (arith, Column.raised-small (start .pre .0) (start .pre .1 .1) (at .1) (inv .1) (at .0) (before-stop turn) edge raised, start .pre .1 .0 .1)
 
 mul-h : tie.Need-mul-h Inv-loop μ-loop
 mul-h c = omega (arith, end-low (c .before))
@@ -141,8 +142,8 @@ sub-h c =
     let at = inv .0 (start .pre .1 .1) in
     let edge = c .before .before .before .before .natural-at .ensures in
     let end = c .before .before .before .ends-at .ensures .0 in
-    let worth = c .before .before .value-at .ensures in
-    omega (arith, Column.ends-fit (start .pre .0) (start .pre .1 .1) (at .1) (inv .1) (at .0) (before-stop turn) edge end worth)
+    let raised = c .before .before .value-at .ensures in
+    omega (arith, Column.ends-fit (start .pre .0) (start .pre .1 .1) (at .1) (inv .1) (at .0) (before-stop turn) edge end raised)
 
 look-back-requires : tie.Need-look-back-requires Inv-loop μ-loop
 look-back-requires c κs =
@@ -155,9 +156,9 @@ look-back-requires c κs =
     let at = inv .0 (start .pre .1 .1) in
     let edge = at-natural-at .natural-at .ensures in
     let end = at-ends-at .ends-at .ensures .0 in
-    let worth = at-value-at .value-at .ensures in
+    let raised = at-value-at .value-at .ensures in
     let few-now = Looking.roomy (start .pre .0) (at .1) in (
-      (end-low at-ends-at, few-now, omega (arith, Column.worth-small (start .pre .0) (start .pre .1 .1) (at .1) (inv .1) (at .0) (before-stop turn) edge worth, start .pre .1 .0 .1)),
+      (end-low at-ends-at, few-now, omega (arith, Column.raised-small (start .pre .0) (start .pre .1 .1) (at .1) (inv .1) (at .0) (before-stop turn) edge raised, start .pre .1 .0 .1)),
       Column.may-lose (start .pre .0) (start .pre .1 .1) (at .1) (inv .1) (at .0) (before-stop turn) edge end,
     )
 
@@ -177,12 +178,12 @@ loop-again c =
     let inv = turn .before .loop .inv in
     let edge = c .before .before .before .before .before .before .before .before .natural-at .ensures in
     let end = c .before .before .before .before .before .before .before .ends-at .ensures .0 in
-    let worth = c .before .before .before .before .before .before .value-at .ensures in
+    let raised = c .before .before .before .before .before .before .value-at .ensures in
     let reached = c .look-back .ensures in
-    let same = Looking.stays reached in (
+    let same = stays reached in (
       (λ h.
           let at = inv .0 h in
-          (omega (arith, at .0), Column.turned (start .pre .0) h (at .1) (inv .1) (at .0) (before-stop turn) edge end worth refl reached)),
+          (omega (arith, at .0), Column.turned (start .pre .0) h (at .1) (inv .1) (at .0) (before-stop turn) edge end raised refl reached)),
       (same .0 ∙ inv .1 .0, same .1 ∙ inv .1 .1),
     )
 

@@ -8,13 +8,13 @@ use denote.Ref.{now}
 use lib.ListN.{length, length-replicate}
 use Rattle.graph.specs.Limits.{mostVertices, mostEdges}
 use Rattle.graph.specs.Graph.{Graph, graphOf, vertices, verticesIn}
-use Rattle.tree.specs.declared.Tree.{Tree}
-use Rattle.tree.specs.Method.{level, Solvable, Good, Rooted}
-use Rattle.tree.specs.Lists.{leasts, mosts, edges, Given}
-use Rattle.tree.specs.Tree.{entries, naturals}
-use Rattle.tree.specs.Front.{far, nearExit, farExit, Exits}
-use Rattle.tree.proofs.Solvable.{few, small, rows-in}
-use Rattle.tree.proofs.Grow.{last-in}
+use Rattle.method.specs.declared.Tree.{Tree}
+use Rattle.method.specs.Method.{level, Solvable, Good, Rooted}
+use Rattle.method.specs.Lists.{leasts, mosts, edges, Given}
+use Rattle.method.specs.Tree.{entries, naturals}
+use Rattle.method.specs.Front.{nearExit, farExit, Exits}
+use Rattle.method.proofs.Solvable.{few, small, rows-in}
+use Rattle.method.proofs.Grow.{last-in}
 use Rattle.scan.specs.Scan.{Scanning}
 use Rattle.scan.proofs.Looking.{roomy}
 use Rattle.search.specs.Search.{Known, exitOf}
@@ -156,7 +156,7 @@ left c = c .before .before .before .before .before .before .before .before .befo
 left-at : (c : Out) →
     let start = begun (turn (left c)) in
     let out = c .loop-test in
-    Growth.Left (graph start) (now (start .args .chosen)) (price start) (exit start) (out .t .label) (out .distance) (out .order) (root start)
+    Growth.LeftOff (graph start) (now (start .args .chosen)) (price start) (exit start) (out .t .label) (out .distance) (out .order) (root start)
     (turn (left c) .search .count) (out .f .goal) (out .end)
     × (out .t .end ≡ mostVertices)
 left-at c =

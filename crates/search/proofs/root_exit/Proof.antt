@@ -1,7 +1,7 @@
 -- `search::root_exit` meets its contract.
 use native.Mathlib.Omega.{arith}
 use mathlib.Core.Path.{sym}
-use Rattle.tree.proofs.Tests.{if-less, if-not-less}
+use Rattle.method.proofs.Tests.{if-less, if-not-less}
 use Rattle.search.proofs.root_exit.Statement.{statement}
 use Rattle.search.proofs.root_exit.Tie as tie
 

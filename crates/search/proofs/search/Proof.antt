@@ -1,8 +1,8 @@
 -- `search::search` meets its contract: the end that is found, the walk back and the count keep all.
 use mathlib.Core.Bool.{true≢false, false≢true}
 use native.Mathlib.Omega.{arith}
-use Rattle.tree.proofs.Solvable.{small}
-use Rattle.tree.proofs.Lists.{reweigh}
+use Rattle.method.proofs.Solvable.{small}
+use Rattle.method.proofs.Lists.{reweigh}
 use Rattle.search.proofs.Spans.{spanned}
 use Rattle.search.proofs.Path.{ranked, relistable, countable, walked, found, kept}
 use borrow.Author.Needs.{needs}

@@ -6,7 +6,7 @@ use lib.ListN.{replicate}
 use Rattle.graph.specs.Graph.{graphOf}
 use Rattle.dual.specs.Sets.{oddSetsOf}
 use Rattle.dual.specs.Gap.{chosenCovered}
-use Rattle.lent.proofs.Setting.{Filling, fill-none, fill-more}
+use Rattle.filling.proofs.Setting.{Filling, fill-none, fill-more}
 use native.Mathlib.Omega.{arith}
 use Rattle.sets.proofs.covered_table.Statement.{statement}
 use Rattle.sets.proofs.covered_table.Tie as tie

@@ -11,8 +11,8 @@ returns c =
     let is-inside2 = c .before .before .is-inside2 in
     let is-inside = c .before .before .before .is-inside in
     ap₂ _+_
-    (c .before .number .ensures .0 ∙ ap one (is-inside .ensures))
-    (c .number2 .ensures .0 ∙ ap one (is-inside2 .ensures))
+    (c .before .as-number .ensures .0 ∙ ap one (is-inside .ensures))
+    (c .as-number2 .ensures .0 ∙ ap one (is-inside2 .ensures))
 
 pub ends-inside-spec : {M : Type 1} → statement M
 ends-inside-spec =

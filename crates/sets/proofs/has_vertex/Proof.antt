@@ -3,7 +3,7 @@ use Prim.Native.Nat.{_-_}
 use mathlib.Core.Path.{sym, ap, _∙_}
 use Rattle.graph.specs.Graph.{some?}
 use Rattle.sets.specs.Words.{isInside}
-use Rattle.checks.proofs.Scan.{Unseen, unseen-none, unseen-more, unseen-seen, unseen-all}
+use Rattle.lowest.proofs.Scan.{Unseen, unseen-none, unseen-more, unseen-seen, unseen-all}
 use native.Mathlib.Omega.{arith}
 use Rattle.sets.proofs.has_vertex.Statement.{statement}
 use Rattle.sets.proofs.has_vertex.Tie as tie

@@ -5,7 +5,7 @@ use mathlib.Core.List.{[]}
 use lib.ListN.{replicate}
 use Rattle.graph.specs.Graph.{graphOf}
 use Rattle.dual.specs.Sets.{oddSetsOf, load}
-use Rattle.lent.proofs.Setting.{Filling, fill-none, fill-more}
+use Rattle.filling.proofs.Setting.{Filling, fill-none, fill-more}
 use native.Mathlib.Omega.{arith}
 use Rattle.sets.proofs.load_table.Statement.{statement}
 use Rattle.sets.proofs.load_table.Tie as tie
@@ -23,22 +23,22 @@ loop-holds c = fill-none
 load-of-requires : tie.Need-load-of-requires Inv-loop μ-loop
 load-of-requires c κs =
     let p = c .before .before .before .before .before .pre in
-    let n = c .before .before .up-to .ensures in
+    let n = c .before .before .at-most-sets .ensures in
     (p .0, (omega (arith, p .1 .0, n), omega (arith, p .1 .1, n)))
 
 array-write-table : tie.Need-array-write-table Inv-loop μ-loop
-array-write-table c = omega (arith, c .before .before .before .up-to .ensures)
+array-write-table c = omega (arith, c .before .before .before .at-most-sets .ensures)
 
 loop-again : tie.Need-loop-again Inv-loop μ-loop
 loop-again c =
-    let up-to = c .before .before .before .up-to in
+    let up-to = c .before .before .before .at-most-sets in
     let L = c .before .before .loop in
     let x = c .load-of in
     fill-more (x .result) (L .inv) (omega (arith, L .inv .long, up-to .ensures)) (x .ensures)
 
 returns : tie.Need-returns Inv-loop μ-loop
 returns c =
-    let up-to = c .before .before .up-to in
+    let up-to = c .before .before .at-most-sets in
     λ j l. c .before .loop .inv .each j (omega (arith, up-to .ensures))
 
 pub load-table-spec : {M : Type 1} → statement M

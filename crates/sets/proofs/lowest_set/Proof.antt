@@ -7,7 +7,7 @@ use lib.Dec.{ltb}
 use lib.ListN.{getD}
 use Rattle.graph.specs.Graph.{graphOf}
 use Rattle.dual.specs.Sets.{oddSetsOf}
-use Rattle.checks.proofs.Scan.{Kept, kept-none, kept-more, kept-broken, kept-all}
+use Rattle.lowest.proofs.Scan.{KeptBelow, kept-none, kept-more, kept-broken, kept-all}
 use Rattle.sets.specs.Words.{keepsRulesBy}
 use native.Mathlib.Omega.{arith}
 use Rattle.sets.proofs.lowest_set.Statement.{statement}
@@ -15,7 +15,7 @@ use Rattle.sets.proofs.lowest_set.Tie as tie
 
 abbrev Inv-loop : tie.InvT-loop
 Inv-loop s row column load sets insides markings count k₀ k =
-    Kept (min sets 17) (λ j. ltb j 16 && keepsRulesBy (graphOf s row column []) (oddSetsOf insides markings) j (getD load j 0)) k
+    KeptBelow (min sets 17) (λ j. ltb j 16 && keepsRulesBy (graphOf s row column []) (oddSetsOf insides markings) j (getD load j 0)) k
 
 abbrev μ-loop : tie.MeasureT-loop
 μ-loop s row column load sets insides markings count k₀ k = count - k
@@ -26,24 +26,24 @@ loop-holds c = kept-none
 is-allowed-requires : tie.Need-is-allowed-requires Inv-loop μ-loop
 is-allowed-requires c κs =
     let p = c .before .before .before .before .before .before .before .pre in
-    let n = c .before .before .up-to .ensures in
+    let n = c .before .before .at-most-sets .ensures in
     (p .0, (omega (arith, p .1 .0, n), omega (arith, p .1 .1, n)))
 
 loop-again : tie.Need-loop-again Inv-loop μ-loop
 loop-again c =
     let at-loop = c .before .before .before in
-    let up-to = at-loop .before .up-to in
+    let up-to = at-loop .before .at-most-sets in
     kept-more (at-loop .loop .inv) (omega (arith, up-to .ensures)) (sym (c .before .is-allowed .ensures) ∙ c .if1 .taken)
 
 returns : tie.Need-returns Inv-loop μ-loop
 returns c =
     let at-loop = c .before .before .before in
-    let up-to = at-loop .before .up-to in
+    let up-to = at-loop .before .at-most-sets in
     kept-broken (at-loop .loop .inv) (omega (arith, up-to .ensures)) (sym (c .before .is-allowed .ensures) ∙ c .if1 .left)
 
 returns-2 : tie.Need-returns-2 Inv-loop μ-loop
 returns-2 c =
-    let up-to = c .before .before .up-to in
+    let up-to = c .before .before .at-most-sets in
     kept-all (c .before .loop .inv) (omega (arith, up-to .ensures))
 
 pub lowest-set-spec : {M : Type 1} → statement M

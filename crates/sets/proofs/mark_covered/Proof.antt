@@ -22,7 +22,7 @@ returns-2 c =
     let a = start .args in
     let n = one (coversBy (a .insides .now) (a .markings .now) (a .k) (a .e) (a .ends .first) (a .ends .second)) in
     let e : a .mark ≡ 1 = omega (arith, start .pre .0 .3, if1 .left) in
-    (c .number .ensures .0 ∙ ap one (c .before .covers-edge .ensures) ∙ sym (ap (λ m. m * n) e ∙ one-mul n), c .number .ensures .1)
+    (c .as-number .ensures .0 ∙ ap one (c .before .covers-edge .ensures) ∙ sym (ap (λ m. m * n) e ∙ one-mul n), c .as-number .ensures .1)
 
 pub mark-covered-spec : {M : Type 1} → statement M
 mark-covered-spec =

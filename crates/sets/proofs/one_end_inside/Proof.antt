@@ -9,7 +9,7 @@ use Rattle.graph.specs.Graph.{graphOf}
 use Rattle.dual.specs.Sets.{oddSetsOf, endsInside}
 use Rattle.sets.specs.Words.{isMarked}
 use Rattle.sets.proofs.Edges.{ends-least, ends-within, keeps-at}
-use Rattle.checks.proofs.Scan.{Unseen, unseen-none, unseen-more, unseen-seen, unseen-all}
+use Rattle.lowest.proofs.Scan.{Unseen, unseen-none, unseen-more, unseen-seen, unseen-all}
 use native.Mathlib.Omega.{arith}
 use Rattle.sets.proofs.one_end_inside.Statement.{statement}
 use Rattle.sets.proofs.one_end_inside.Tie as tie

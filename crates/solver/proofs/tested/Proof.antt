@@ -13,7 +13,7 @@ graph c = graphOf (c .args .s) (c .args .row .now) (c .args .column .now) (c .ar
 abbrev lent : tie.Start → Lent
 lent c = let l = c .args .outputs in lentOf (l .chosen) (l .vertex) (l .edge) (l .workspace)
 
-abbrev begun : tie.After-others-match → tie.Start
+abbrev begun : tie.After-outputs-match → tie.Start
 begun c = c .before .before .before .before
 
 returns : tie.Need-returns
@@ -21,7 +21,7 @@ returns c =
     let tests = c .before .before .before in
     let m = tests .before in
     let s = begun m in
-    first-refused (graph s) (s .args .bound .now) (s .args .index .now) (lent s) (m .others-match .ensures) (tests .check-bipartite .ensures)
+    first-refused (graph s) (s .args .bound .now) (s .args .index .now) (lent s) (m .outputs-match .ensures) (tests .check-bipartite .ensures)
     (c .before .r .given .1)
 
 check-places-requires : tie.Need-check-places-requires
@@ -29,7 +29,7 @@ check-places-requires c κs =
     let tests = c .before .before in
     let m = tests .before in
     let s = begun m in
-    indexable (graph s) (s .args .bound .now) (s .args .index .now) (lent s) (m .others-match .ensures) (tests .check-bipartite .ensures)
+    indexable (graph s) (s .args .bound .now) (s .args .index .now) (lent s) (m .outputs-match .ensures) (tests .check-bipartite .ensures)
     (c .enum-told .given .1)
 
 returns-2 : tie.Need-returns-2
@@ -37,7 +37,7 @@ returns-2 c =
     let tests = c .before .before .before in
     let m = tests .before in
     let s = begun m in
-    index-last (graph s) (s .args .bound .now) (s .args .index .now) (lent s) (m .others-match .ensures) (tests .check-bipartite .ensures)
+    index-last (graph s) (s .args .bound .now) (s .args .index .now) (lent s) (m .outputs-match .ensures) (tests .check-bipartite .ensures)
     (c .before .enum-told .given .1) (c .check-places .ensures)
 
 pub tested-spec : {M : Type 1} → statement M

@@ -13,8 +13,8 @@ use Rattle.subgraph_reader.proofs.read_subgraph.Tie as tie
 enum-told : tie.Need-enum-told
 enum-told c = search needs
 
-read-lines-requires : tie.Need-read-lines-requires
-read-lines-requires c κs =
+read-subgraph-lines-requires : tie.Need-read-subgraph-lines-requires
+read-subgraph-lines-requires c κs =
     let enum-told = c .before .enum-told in
     let at-check-inputs = c .before .before .before in
     let at-clear-bytes = at-check-inputs .before .before .before in
@@ -41,32 +41,32 @@ returns c =
 
 returns-2 : tie.Need-returns-2
 returns-2 c =
-    let at-read-lines = c .before .before .before .before in
-    let at-enum-told = at-read-lines .before .before in
+    let at-read-subgraph-lines = c .before .before .before .before in
+    let at-enum-told = at-read-subgraph-lines .before .before in
     let at-check-inputs = at-enum-told .before .before in
     let at-clear-bytes = at-check-inputs .before .before .before in
     let args = at-clear-bytes .before .before .before .before .before .before .args in
     whole-read (graphOf (args .s) (now (args .row)) (now (args .column)) (now (args .weight))) (length (now (args .chosen))) (now (args .text))
     (ap length (at-clear-bytes .clear-bytes .ensures) ∙ length-replicate (length (now (args .chosen))) 0) _
-    (at-check-inputs .check-inputs .ensures) (at-enum-told .enum-told .given .1) (any-weights (at-read-lines .read-lines .ensures) _)
+    (at-check-inputs .check-inputs .ensures) (at-enum-told .enum-told .given .1) (any-weights (at-read-subgraph-lines .read-subgraph-lines .ensures) _)
     (c .enum-told2 .given .1)
 
 returns-3 : tie.Need-returns-3
 returns-3 c =
     let clear-bytes2 = c .before .before .clear-bytes2 in
     let at-r2 = c .before .before .before .before .before in
-    let at-read-lines = at-r2 .before .before .before .before in
-    let at-enum-told = at-read-lines .before .before in
+    let at-read-subgraph-lines = at-r2 .before .before .before .before in
+    let at-enum-told = at-read-subgraph-lines .before .before in
     let at-check-inputs = at-enum-told .before .before in
     let at-clear-bytes = at-check-inputs .before .before .before in
     let args = at-clear-bytes .before .before .before .before .before .before .args in
     whole-refused (graphOf (args .s) (now (args .row)) (now (args .column)) (now (args .weight))) (length (now (args .chosen))) (now (args .text))
     (ap length (at-clear-bytes .clear-bytes .ensures) ∙ length-replicate (length (now (args .chosen))) 0) _
-    (at-check-inputs .check-inputs .ensures) (at-enum-told .enum-told .given .1) (any-weights (at-read-lines .read-lines .ensures) _)
+    (at-check-inputs .check-inputs .ensures) (at-enum-told .enum-told .given .1) (any-weights (at-read-subgraph-lines .read-subgraph-lines .ensures) _)
     (at-r2 .r2 .given .1)
     (clear-bytes2 .ensures
     ∙ ap (λ (k : ℕ). replicate k 0)
-    (at-read-lines .read-lines .kept .1 .1 .1 .1 .0
+    (at-read-subgraph-lines .read-subgraph-lines .kept .1 .1 .1 .1 .0
     ∙ (ap length (at-clear-bytes .clear-bytes .ensures) ∙ length-replicate (length (now (args .chosen))) 0)))
 
 pub read-subgraph-spec : {M : Type 1} → statement M
@@ -77,7 +77,7 @@ read-subgraph-spec =
     (λ c κs. search needs)
     (λ c. search needs)
     enum-told
-    read-lines-requires
+    read-subgraph-lines-requires
     (λ c. search needs)
     (λ c. search needs)
     (λ c κs. search needs)

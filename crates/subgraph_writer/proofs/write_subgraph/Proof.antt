@@ -26,8 +26,8 @@ returns c =
     let w = refused (graph s) (now (s .args .chosen)) n (at-check-marks .check-marks .ensures) (at-r .r .given .1) in
     (sym (ap (λ (o : Outcome (List ℕ)). told (reported length o)) w), clear-bytes .ensures ∙ sym (ap (output n 0 (λ t. t)) w))
 
-put-subgraph-requires : tie.Need-put-subgraph-requires
-put-subgraph-requires c κs =
+answer-subgraph-requires : tie.Need-answer-subgraph-requires
+answer-subgraph-requires c κs =
     let s = c .before .before .before .before .before .before .before .before in
     let n = length (now (s .args .out)) in
     let k = c .before .before .before .check-marks .ensures in
@@ -37,15 +37,15 @@ put-subgraph-requires c κs =
 
 returns-2 : tie.Need-returns-2
 returns-2 c =
-    let put-subgraph = c .before .before .put-subgraph in
+    let answer-subgraph = c .before .before .answer-subgraph in
     let s = c .before .before .before .before .before .before .before .before .before .before .before in
     let n = length (now (s .args .out)) in
     let k = c .before .before .before .before .before .before .check-marks .ensures in
     let p = c .before .before .before .before .enum-told .given .1 in
-    let w = put-subgraph .ensures (now (s .args .weight)) in
+    let w = answer-subgraph .ensures (now (s .args .weight)) in
     let is = yielded (graph s) (now (s .args .chosen)) n k p in
     let long = size (graph s) (now (s .args .chosen)) n k p in
-    (answered is long w, filled-in is long w)
+    (answered is long (answer-subgraph .last .0) (answer-subgraph .result) w, filled-in is long (answer-subgraph .last .0) (answer-subgraph .result) w)
 
 pub write-subgraph-spec : {M : Type 1} → statement M
 write-subgraph-spec =
@@ -57,6 +57,6 @@ write-subgraph-spec =
     (λ c. search needs)
     returns
     (λ c. search needs)
-    put-subgraph-requires
+    answer-subgraph-requires
     (λ c. search needs)
     returns-2)

@@ -1,5 +1,5 @@
 -- The bound counts how often the price is taken.
-use Rattle.sums.proofs.Products.{scalable, scaled}
+use Rattle.terms.proofs.Products.{scalable, scaled}
 use native.Mathlib.Omega.{arith}
 use borrow.Author.Needs.{needs}
 use Rattle.sums.proofs.bound_price.Statement.{statement}

@@ -1,7 +1,7 @@
 -- The capacity counts how often the price is taken.
 use mathlib.Core.Path.{ap}
 use lib.IntN.{pos}
-use Rattle.sums.proofs.Products.{scalable, scaled}
+use Rattle.terms.proofs.Products.{scalable, scaled}
 use native.Mathlib.Omega.{arith}
 use borrow.Author.Needs.{needs}
 use Rattle.sums.proofs.capacity_price.Statement.{statement}

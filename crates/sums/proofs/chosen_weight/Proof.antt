@@ -1,5 +1,5 @@
 -- The weight is taken by its mark.
-use Rattle.sums.proofs.Products.{taken}
+use Rattle.terms.proofs.Products.{by-mark}
 use native.Mathlib.Omega.{arith}
 use borrow.Author.Needs.{needs}
 use Rattle.sums.proofs.chosen_weight.Statement.{statement}
@@ -9,7 +9,7 @@ returns : tie.Need-returns
 returns c =
     let x = c .before .element in
     let r = c .if-chosen in
-    taken (r .result) (x .result) _ (r .ok) (x .ok) (x .ensures) (omega arith) (r .ensures)
+    by-mark (r .result) (x .result) _ (r .ok) (x .ok) (x .ensures) (omega arith) (r .ensures)
 
 pub chosen-weight-spec : {M : Type 1} → statement M
 chosen-weight-spec =

@@ -4,7 +4,7 @@ use mathlib.Core.Path.{refl, ap, _∙_}
 use lib.IntN.{pos, _-ℤ_, _*ℤ_}
 use lib.ListN.{getD}
 use Rattle.dual.specs.Gap.{halfPoints}
-use Rattle.sums.proofs.Machine.{held-is, held-within}
+use Rattle.terms.proofs.Machine.{stored-is, stored-within}
 use mir.Syntax.{w64}
 use mir.Val.{toZ}
 use Rattle.integers.proofs.Loops.{summedℤ-none}
@@ -32,7 +32,7 @@ excess-requires c κs =
     let p = start .pre in
     let e = c .before .before .loop .e in
     let l = c .before .loop-test .taken in (
-      held-within (getD (start .args .cover .now) e (pos 0)) (c .excess-arg .given) (p .1 e l) (omega arith),
+      stored-within (getD (start .args .cover .now) e (pos 0)) (c .excess-arg .given) (p .1 e l) (omega arith),
       (omega (arith, p .0 .1), omega (arith, p .0 .2 .long), p .0 .2 .each e l),
     )
 
@@ -51,7 +51,7 @@ loop-again c =
     let e = at-loop .loop .e in
     let x = c .before .excess in
     let r = c .add in
-    let h = held-is (getD (a .cover .now) e (pos 0)) (excess-arg .given) in
+    let h = stored-is (getD (a .cover .now) e (pos 0)) (excess-arg .given) in
     added (at-loop .loop .inv) (x .result) (r .result) (at-loop-test .loop-test .taken) (x .ok) (r .ok)
     (x .ensures .0 ∙ ap (λ z. pos (getD (a .chosen .now) e 0) *ℤ (z -ℤ halfPoints (getD (a .weight .now) e (pos 0)))) h, x .ensures .1) (r .ensures)
 

@@ -8,10 +8,10 @@ use Rattle.integers.specs.Integer.{Within}
 use Rattle.graph.specs.Graph.{graphOf}
 use Rattle.dual.specs.Prices.{pricesOf}
 use Rattle.dual.specs.Gap.{coverOf}
-use Rattle.lent.proofs.Setting.{Filling, fill-none, fill-more}
+use Rattle.filling.proofs.Setting.{Filling, fill-none, fill-more}
 use Rattle.sets.proofs.Edges.{ends-least, ends-within}
-use Rattle.sums.proofs.Machine.{held, held-within, held-both}
-use Rattle.sums.proofs.Steps.{plus}
+use Rattle.terms.proofs.Machine.{stored, stored-within, stored-both}
+use Rattle.terms.proofs.Steps.{plus}
 use Rattle.sums.proofs.Covers.{cover-at}
 use native.Mathlib.Omega.{arith}
 use Rattle.sums.proofs.cover_table.Statement.{statement}
@@ -60,7 +60,7 @@ add-requires : tie.Need-add-requires Inv-loop μ-loop
 add-requires c κs =
     let x = c .before .own-cover in
     let y = c .set-cover in
-    (held-within (x .result) (x .ok) (x .ensures .1) (omega arith), held-within (y .result) (y .ok) (y .ensures .1) (omega arith))
+    (stored-within (x .result) (x .ok) (x .ensures .1) (omega arith), stored-within (y .result) (y .ok) (y .ensures .1) (omega arith))
 
 element-set-from-table : tie.Need-element-set-from-table Inv-loop μ-loop
 element-set-from-table c =
@@ -81,8 +81,8 @@ loop-again c =
     let r = c .add in
     let P = pricesOf (a .vertex-price .now) (a .edge-price .now) (a .sets) (a .set-price .now) (a .insides .now) (a .markings .now) in
     let w = plus (x .result) (y .result) (r .result) (x .ok) (y .ok) (x .ensures) (y .ensures) (r .ensures) in
-    fill-more (held (r .result)) (L .inv) (omega (arith, at-loop-test .loop-test .taken, L .inv .long, start .pre .1 .1 .2, S .rowLong, S .sizes .few))
-    (held-both (r .result) (r .ok) (cover-at P (L .e) (ends-of .ensures) (w .0)) (omega (arith, w .1)))
+    fill-more (stored (r .result)) (L .inv) (omega (arith, at-loop-test .loop-test .taken, L .inv .long, start .pre .1 .1 .2, S .rowLong, S .sizes .few))
+    (stored-both (r .result) (r .ok) (cover-at P (L .e) (ends-of .ensures) (w .0)) (omega (arith, w .1)))
 
 returns : tie.Need-returns Inv-loop μ-loop
 returns c =

@@ -1,6 +1,6 @@
 -- The price times what the degree leaves of the bound.
 use mathlib.Core.Path.{refl}
-use Rattle.sums.proofs.Products.{rest-held}
+use Rattle.terms.proofs.Products.{rest-held}
 use borrow.Author.Needs.{needs}
 use Rattle.sums.proofs.residual_price.Statement.{statement}
 use Rattle.sums.proofs.residual_price.Tie as tie

@@ -9,7 +9,7 @@ use Rattle.integers.specs.Integer.{Within}
 use Rattle.integers.proofs.Loops.{Summedℤ, summedℤ-none, summedℤ-more, summedℤ-all}
 use Rattle.dual.specs.Sets.{one}
 use Rattle.sets.specs.Words.{coversBy}
-use Rattle.sums.proofs.Machine.{held, held-is, held-within}
+use Rattle.terms.proofs.Machine.{stored, stored-is, stored-within}
 use native.Mathlib.Omega.{arith}
 use Rattle.sums.proofs.set_cover.Statement.{statement}
 use Rattle.sums.proofs.set_cover.Tie as tie
@@ -35,7 +35,7 @@ add-requires c κs =
     let inv = c .before .before .loop .inv in
     let pre = c .before .before .before .before .before .pre in
     let x = c .price-covering in
-    let w : Within (2 ^ 31) (held (x .result)) = held-within (x .result) (x .ok) (x .ensures .1) (omega arith) in
+    let w : Within (2 ^ 31) (stored (x .result)) = stored-within (x .result) (x .ok) (x .ensures .1) (omega arith) in
     omega (arith, inv .small, w, pre .1 .0)
 
 loop-again : tie.Need-loop-again Inv-loop μ-loop
@@ -45,7 +45,7 @@ loop-again c =
     let x = c .before .price-covering in
     let r = c .add in
     summedℤ-more inv (loop-test .taken)
-    (held-is (x .result) (x .ok) ∙ x .ensures .0, held-within (x .result) (x .ok) (x .ensures .1) (omega arith)) (held-is (r .result) (r .ok) ∙ r .ensures)
+    (stored-is (x .result) (x .ok) ∙ x .ensures .0, stored-within (x .result) (x .ok) (x .ensures .1) (omega arith)) (stored-is (r .result) (r .ok) ∙ r .ensures)
 
 returns : tie.Need-returns Inv-loop μ-loop
 returns c =

@@ -6,7 +6,7 @@ use lib.ListN.{getD}
 use mir.Syntax.{w64}
 use mir.Val.{toZ}
 use Rattle.integers.proofs.Loops.{summedℤ-none}
-use Rattle.sums.proofs.Machine.{held-is, held-within}
+use Rattle.terms.proofs.Machine.{stored-is, stored-within}
 use Rattle.sums.proofs.Totals.{Adding, addable, added, added-all}
 use native.Mathlib.Omega.{arith}
 use Rattle.sums.proofs.set_slack.Statement.{statement}
@@ -38,7 +38,7 @@ price-of-rest-requires c κs =
     let pre = at-loop .before .pre in
     let w = pre .1 (at-loop .loop .k) (loop-test .taken) in
     let x = c .element in
-    (omega (arith, w .0, c .before .capacity .ensures), w .1, held-within (x .result) (x .ok) (x .ensures .1) (omega arith))
+    (omega (arith, w .0, c .before .capacity .ensures), w .1, stored-within (x .result) (x .ok) (x .ensures .1) (omega arith))
 
 add-requires : tie.Need-add-requires Inv-loop μ-loop
 add-requires c κs =
@@ -57,7 +57,7 @@ loop-again c =
     let r = c .add in
     let p = c .before .before .element in
     let used = getD (args .t3) (at-loop .loop .k) 0 in
-    let is = ap₂ (λ (z : ℤ) (n : ℕ). z *ℤ (pos n -ℤ pos used)) (held-is (p .result) (p .ok) ∙ p .ensures .0) (at-capacity .capacity .ensures) in
+    let is = ap₂ (λ (z : ℤ) (n : ℕ). z *ℤ (pos n -ℤ pos used)) (stored-is (p .result) (p .ok) ∙ p .ensures .0) (at-capacity .capacity .ensures) in
     added (at-loop .loop .inv) (x .result) (r .result) (at-loop-test .loop-test .taken) (x .ok) (r .ok) (x .ensures .0 ∙ is, x .ensures .1) (r .ensures)
 
 returns : tie.Need-returns Inv-loop μ-loop

@@ -1,5 +1,5 @@
 -- The price is taken by what the mark leaves of 1.
-use Rattle.sums.proofs.Products.{taken}
+use Rattle.terms.proofs.Products.{by-mark}
 use native.Mathlib.Omega.{arith}
 use borrow.Author.Needs.{needs}
 use Rattle.sums.proofs.unchosen_price.Statement.{statement}
@@ -9,7 +9,7 @@ returns : tie.Need-returns
 returns c =
     let x = c .before .element in
     let r = c .if-chosen in
-    taken (r .result) (x .result) _ (r .ok) (x .ok) (x .ensures) (omega arith) (r .ensures)
+    by-mark (r .result) (x .result) _ (r .ok) (x .ok) (x .ensures) (omega arith) (r .ensures)
 
 pub unchosen-price-spec : {M : Type 1} → statement M
 unchosen-price-spec =

@@ -4,87 +4,63 @@ use denote.Ref.{now}
 use mathlib.Core.Option.{none, some}
 use mir.Facts.{toZ-ofZ}
 use mir.Syntax.{w32}
-use Rattle.text.proofs.Integers.{one-fits}
-use Rattle.layout.specs.Text.{natural, integer}
-use Rattle.text.specs.Cursor.{integerSays, nextNaturalSays}
-use Rattle.text.proofs.Shapes.{natural-nil, took, spoilt, three-bad, three-second, three-last}
+use Rattle.layout.specs.Text.{integer}
+use Rattle.numerals.specs.Numerals.{integerSays}
+use Rattle.text.proofs.Shapes.{first-spoilt, first-took, second-spoilt, second-took, third-as, one-fits}
 use borrow.Author.Needs.{needs}
 use Rattle.text.proofs.edge_numbers.Statement.{statement}
 use Rattle.text.proofs.edge_numbers.Tie as tie
 
 returns : tie.Need-returns
 returns c =
-    let next-natural = c .before .before .next-natural in
     let args = c .before .before .before .before .args in
-    sym
-    (three-bad (natural (args .rules)) (natural (args .rules)) (integer (args .rules)) _
-    (spoilt (natural (args .rules)) (now (args .line)) (record { at = 0; line = 0 }) (sym (ap nextNaturalSays (c .enum-told .given .1)) ∙ next-natural .ensures)))
+    first-spoilt (args .rules) (integer (args .rules)) (now (args .line)) (c .before .before .next-natural .ensures) (c .enum-told .given .1)
 
 next-natural-requires-2 : tie.Need-next-natural-requires-2
 next-natural-requires-2 c κs =
-    let at-next-natural = c .before .before .before in
-    let args = at-next-natural .before .before .args in
-    (took (natural (args .rules)) (now (args .line)) (record { at = 0; line = 0 }) (natural-nil (args .rules)) (search needs) _ _
-    (sym (ap nextNaturalSays (c .before .row .given .1)) ∙ at-next-natural .next-natural .ensures)) .inside
+    let first = c .before .before .before in
+    let args = first .before .before .args in
+    first-took (args .rules) (integer (args .rules)) (now (args .line)) (first .next-natural .ensures) (c .before .row .given .1) .inside
 
 returns-2 : tie.Need-returns-2
 returns-2 c =
-    let next-natural2 = c .before .before .next-natural2 in
     let at-row = c .before .before .before .before in
-    let at-next-natural = at-row .before .before in
-    let args = at-next-natural .before .before .args in
-    sym
-    (three-second (natural (args .rules)) (natural (args .rules)) (integer (args .rules)) (now (args .line)) _ _
-    (took (natural (args .rules)) (now (args .line)) (record { at = 0; line = 0 }) (natural-nil (args .rules)) (search needs) _ _
-    (sym (ap nextNaturalSays (at-row .row .given .1)) ∙ at-next-natural .next-natural .ensures))
-    (spoilt (natural (args .rules)) (now (args .line)) _ (sym (ap nextNaturalSays (c .enum-told2 .given .1)) ∙ next-natural2 .ensures)))
+    let first = at-row .before .before in
+    let args = first .before .before .args in
+    second-spoilt (args .rules) (integer (args .rules)) (now (args .line)) (first .next-natural .ensures) (at-row .row .given .1)
+    (c .before .before .next-natural2 .ensures) (c .enum-told2 .given .1)
 
 last-integer-requires : tie.Need-last-integer-requires
 last-integer-requires c κs =
-    let at-next-natural2 = c .before .before .before in
-    let at-row = at-next-natural2 .before .before in
-    let at-next-natural = at-row .before .before in
-    let args = at-next-natural .before .before .args in
-    (took (natural (args .rules)) (now (args .line)) _ (natural-nil (args .rules))
-    ((took (natural (args .rules)) (now (args .line)) (record { at = 0; line = 0 }) (natural-nil (args .rules)) (search needs) _ _
-    (sym (ap nextNaturalSays (at-row .row .given .1)) ∙ at-next-natural .next-natural .ensures)) .inside) _ _
-    (sym (ap nextNaturalSays (c .before .column .given .1)) ∙ at-next-natural2 .next-natural2 .ensures)) .inside
+    let second = c .before .before .before in
+    let at-row = second .before .before in
+    let first = at-row .before .before in
+    let args = first .before .before .args in
+    second-took (args .rules) (integer (args .rules)) (now (args .line)) (first .next-natural .ensures) (at-row .row .given .1)
+    (second .next-natural2 .ensures) (c .before .column .given .1) .inside
 
 returns-3 : tie.Need-returns-3
 returns-3 c =
-    let last-integer = c .before .before .last-integer in
     let at-column = c .before .before .before .before in
-    let at-next-natural2 = at-column .before .before in
-    let at-row = at-next-natural2 .before .before in
-    let at-next-natural = at-row .before .before in
-    let args = at-next-natural .before .before .args in
-    three-last (natural (args .rules)) (natural (args .rules)) (integer (args .rules)) (now (args .line)) _ _
-    (took (natural (args .rules)) (now (args .line)) (record { at = 0; line = 0 }) (natural-nil (args .rules)) (search needs) _ _
-    (sym (ap nextNaturalSays (at-row .row .given .1)) ∙ at-next-natural .next-natural .ensures)) _ _
-    (took (natural (args .rules)) (now (args .line)) _ (natural-nil (args .rules))
-    ((took (natural (args .rules)) (now (args .line)) (record { at = 0; line = 0 }) (natural-nil (args .rules)) (search needs) _ _
-    (sym (ap nextNaturalSays (at-row .row .given .1)) ∙ at-next-natural .next-natural .ensures)) .inside) _ _
-    (sym (ap nextNaturalSays (at-column .column .given .1)) ∙ at-next-natural2 .next-natural2 .ensures)) none
-    (sym (ap integerSays (c .enum-told3 .given .1)) ∙ last-integer .ensures)
+    let second = at-column .before .before in
+    let at-row = second .before .before in
+    let first = at-row .before .before in
+    let args = first .before .before .args in
+    third-as (args .rules) (integer (args .rules)) (now (args .line)) (first .next-natural .ensures) (at-row .row .given .1)
+    (second .next-natural2 .ensures) (at-column .column .given .1) none (sym (ap integerSays (c .enum-told3 .given .1)) ∙ c .before .before .last-integer .ensures)
 
 returns-4 : tie.Need-returns-4
 returns-4 c =
-    let weight = c .before .weight in
-    let at-last-integer = c .before .before .before in
-    let at-column = at-last-integer .before .before in
-    let at-next-natural2 = at-column .before .before in
-    let at-row = at-next-natural2 .before .before in
-    let at-next-natural = at-row .before .before in
-    let args = at-next-natural .before .before .args in
-    rw (toZ-ofZ {w = w32} (one-fits (args .rules) _ _ (sym (sym (ap integerSays (weight .given .1)) ∙ at-last-integer .last-integer .ensures))))
-    (three-last (natural (args .rules)) (natural (args .rules)) (integer (args .rules)) (now (args .line)) _ _
-    (took (natural (args .rules)) (now (args .line)) (record { at = 0; line = 0 }) (natural-nil (args .rules)) (search needs) _ _
-    (sym (ap nextNaturalSays (at-row .row .given .1)) ∙ at-next-natural .next-natural .ensures)) _ _
-    (took (natural (args .rules)) (now (args .line)) _ (natural-nil (args .rules))
-    ((took (natural (args .rules)) (now (args .line)) (record { at = 0; line = 0 }) (natural-nil (args .rules)) (search needs) _ _
-    (sym (ap nextNaturalSays (at-row .row .given .1)) ∙ at-next-natural .next-natural .ensures)) .inside) _ _
-    (sym (ap nextNaturalSays (at-column .column .given .1)) ∙ at-next-natural2 .next-natural2 .ensures)) (some _)
-    (sym (ap integerSays (weight .given .1)) ∙ at-last-integer .last-integer .ensures))
+    let third = c .before .before .before in
+    let at-column = third .before .before in
+    let second = at-column .before .before in
+    let at-row = second .before .before in
+    let first = at-row .before .before in
+    let args = first .before .before .args in
+    let read = sym (ap integerSays (c .before .weight .given .1)) ∙ third .last-integer .ensures in
+    rw (toZ-ofZ {w = w32} (one-fits (args .rules) _ _ (sym read)))
+    (third-as (args .rules) (integer (args .rules)) (now (args .line)) (first .next-natural .ensures) (at-row .row .given .1)
+    (second .next-natural2 .ensures) (at-column .column .given .1) (some _) read)
 
 pub edge-numbers-spec : {M : Type 1} → statement M
 edge-numbers-spec =

@@ -3,7 +3,8 @@ use mathlib.Core.Path.{sym, ap, _∙_}
 use denote.Ref.{now}
 use mathlib.Core.Option.{none, some}
 use Rattle.layout.specs.Text.{natural}
-use Rattle.text.specs.Cursor.{naturalSays, nextNaturalSays}
+use Rattle.spelling.specs.Spelling.{naturalSays}
+use Rattle.text.specs.Cursor.{nextNaturalSays}
 use Rattle.text.proofs.Shapes.{natural-nil, took, spoilt, two-bad, two-last}
 use borrow.Author.Needs.{needs}
 use Rattle.text.proofs.pair_numbers.Statement.{statement}

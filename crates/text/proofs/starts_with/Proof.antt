@@ -1,7 +1,7 @@
 -- `text::starts_with` meets its contract.
 use denote.Ref.{now}
 use mathlib.Core.Path.{sym}
-use Rattle.text.proofs.Headers.{starts-empty, starts-at}
+use Rattle.text.proofs.Pieces.{starts-empty, starts-at}
 use borrow.Author.Needs.{needs}
 use Rattle.text.proofs.starts_with.Statement.{statement}
 use Rattle.text.proofs.starts_with.Tie as tie

@@ -7,6 +7,7 @@ use denote.Ref.{now}
 use borrow.Author.Needs.{needs}
 use Rattle.graph.specs.Refusal.{Outcome, told, reported, output}
 use Rattle.graph.specs.Graph.{Graph, graphOf}
+use Rattle.layout.specs.declared.TextAnswer.the-variants as TextAnswer
 use Rattle.writer.proofs.Answered.{answered, filled-in}
 use Rattle.tidier.proofs.Tested.{refused, passed, size, yielded}
 use Rattle.tidier.proofs.tidy_graph.Statement.{statement}
@@ -40,7 +41,7 @@ returns-2 c =
     let text = yielded (graph s) (room s) says is in
     let long = size (graph s) (room s) says is in
     let w = c .before .before .put-tidy .ensures in
-    (answered text long w, filled-in text long w)
+    (answered text long _ (TextAnswer.Written _) w, filled-in text long _ (TextAnswer.Written _) w)
 
 pub tidy-graph-spec : {M : Type 1} → statement M
 tidy-graph-spec =

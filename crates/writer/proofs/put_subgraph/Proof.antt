@@ -5,12 +5,12 @@ use native.Mathlib.Omega.{arith}
 use borrow.Author.Needs.{needs}
 use denote.Ref.{now}
 use lib.ListN.{length}
-use Rattle.writer.proofs.Subgraph.{EdgesWriting, edges-start, edges-more, edges-end, few, marks-few, line-room, head-room, subgraph-written}
+use Rattle.writer.proofs.Subgraph.{ChosenWriting, edges-start, edges-more, edges-end, few, marks-few, line-room, head-room, subgraph-written}
 use Rattle.writer.proofs.put_subgraph.Statement.{statement}
 use Rattle.writer.proofs.put_subgraph.Tie as tie
 
 abbrev Inv-loop : tie.InvT-loop
-Inv-loop out₀ row column chosen at₀ e₀ out at e = EdgesWriting row column chosen out₀ at₀ out at e
+Inv-loop out₀ row column chosen at₀ e₀ out at e = ChosenWriting row column chosen out₀ at₀ out at e
 
 abbrev μ-loop : tie.MeasureT-loop
 μ-loop out₀ row column chosen at₀ e₀ out at e = length row - e
@@ -29,23 +29,23 @@ loop-holds c =
     edges-start (s .pre .1 .0) (s .pre .1 .1) _ _
     (head-room (s .pre .1 .0) (s .pre .1 .1) (now (s .args .out)) (s .pre .0) (c .before .before .before .count-chosen .ensures) (h .ensures) (h .kept .0))
 
-mul-put-edge-2 : tie.Need-mul-put-edge-2 Inv-loop μ-loop
-mul-put-edge-2 c =
+mul-put-chosen-edge-2 : tie.Need-mul-put-chosen-edge-2 Inv-loop μ-loop
+mul-put-chosen-edge-2 c =
     let q = c .before .before .before .before .before .before .before .before .before .before .before .before .before .pre .1 in
     omega (arith, q .0 .rowLong, q .0 .columnLong, few (q .0) (q .1))
 
-shared-slice-read-put-edge-2 : tie.Need-shared-slice-read-put-edge-2 Inv-loop μ-loop
-shared-slice-read-put-edge-2 c =
+shared-slice-read-put-chosen-edge-2 : tie.Need-shared-slice-read-put-chosen-edge-2 Inv-loop μ-loop
+shared-slice-read-put-chosen-edge-2 c =
     let q = c .before .before .before .before .before .before .before .before .before .before .before .before .before .before .pre .1 in
     omega (arith, q .0 .rowLong, q .0 .columnLong)
 
-shared-slice-read-put-edge-3 : tie.Need-shared-slice-read-put-edge-3 Inv-loop μ-loop
-shared-slice-read-put-edge-3 c =
+shared-slice-read-put-chosen-edge-3 : tie.Need-shared-slice-read-put-chosen-edge-3 Inv-loop μ-loop
+shared-slice-read-put-chosen-edge-3 c =
     let q = c .before .before .before .before .before .before .before .before .before .before .before .before .before .before .before .pre .1 in
     omega (arith, q .0 .rowLong, q .1 .long)
 
-put-edge-requires : tie.Need-put-edge-requires Inv-loop μ-loop
-put-edge-requires c κs =
+put-chosen-edge-requires : tie.Need-put-chosen-edge-requires Inv-loop μ-loop
+put-chosen-edge-requires c κs =
     let s = c .before .before .before .before .before .before .before .before .before .before .before .before .before .before .before in
     line-room (s .pre .1 .0) (s .pre .1 .1) (c .before .before .before .before .before .loop .inv) (c .before .before .before .before .loop-test .taken)
 
@@ -54,7 +54,7 @@ loop-again c =
     let at-loop-test = c .before .before .before .before .before .before .before in
     let at-loop = at-loop-test .before in
     let s = at-loop .before .before .before .before .before .before .before .before .before .before in
-    let p = c .before .before .put-edge in
+    let p = c .before .before .put-chosen-edge in
     edges-more (s .pre .1 .0) (s .pre .1 .1) (at-loop .loop .inv) (at-loop-test .loop-test .taken) (p .kept .0) (p .ensures)
 
 same-length : tie.Need-same-length Inv-loop μ-loop
@@ -80,10 +80,10 @@ put-subgraph-spec =
     loop-holds
     (λ c. search needs)
     (λ c. search needs)
-    mul-put-edge-2
-    shared-slice-read-put-edge-2
-    shared-slice-read-put-edge-3
-    put-edge-requires
+    mul-put-chosen-edge-2
+    shared-slice-read-put-chosen-edge-2
+    shared-slice-read-put-chosen-edge-3
+    put-chosen-edge-requires
     (λ c. search needs)
     (λ c. omega arith)
     loop-again

@@ -1,14 +1,14 @@
 //! Times the proved calls beside the separately written program, in one run. Buffers are cleared before each call.
 
-use compare::assignments::{Reading, Writing};
-use compare::graphs::Lent;
-use compare::indexes::{Building, Testing};
-use compare::measures::Measuring;
-use compare::problems::{Buffers, Family, Problem, Solving, WHOLE_RANGE};
-use compare::proved;
-use compare::readings::{ReadingNumbers, ReadingSubgraph};
-use compare::tidies::Tidying;
-use compare::timing::{self, microseconds};
+use compare::calls::assignments::{Reading, Writing};
+use compare::calls::indexes::{Building, Testing};
+use compare::calls::measures::Measuring;
+use compare::calls::readings::{ReadingNumbers, ReadingSubgraph};
+use compare::calls::tidies::Tidying;
+use compare::drawing::graphs::Lent;
+use compare::drawing::problems::{Buffers, Family, Problem, Solving, WHOLE_RANGE};
+use compare::harness::proved;
+use compare::harness::timing::{self, microseconds};
 use reference::{Kind, Random, What};
 use std::hint::black_box;
 

@@ -1,7 +1,7 @@
 //! Compares the proved calls with the separately written program.
 
-use compare::tally::finish;
-use compare::{assignments, indexes, measures, readers, solves, spellings, tidies};
+use compare::calls::{assignments, indexes, measures, readers, solves, spellings, tidies};
+use compare::harness::tally::finish;
 
 fn main() {
     let mut results = readers::compare(2_026, 60_000);

@@ -1,14 +1,14 @@
 //! Compares the built programs with the separately written program: `programs BIN_FOLDER [--valgrind]`.
 
-use compare::runs::Built;
-use compare::tally::finish;
-use compare::{dimacs_runs, programs, rewrites, tidy_runs};
+use compare::harness::runs::Built;
+use compare::harness::tally::finish;
+use compare::programs::{dimacs_runs, plan_runs, rewrites, tidy_runs};
 use std::io;
 use std::path::Path;
 
 fn compare(folder: &Path, valgrind: bool) -> io::Result<Vec<bool>> {
     let built = Built::new(folder, valgrind)?;
-    let mut results = programs::compare(2_029, 3_000, &built)?;
+    let mut results = plan_runs::compare(2_029, 3_000, &built)?;
     results.extend(rewrites::compare(2_032, 4_000, &built)?);
     results.extend(tidy_runs::compare(2_034, 4_000, &built)?);
     results.extend(dimacs_runs::compare(2_036, 2_000, &built)?);

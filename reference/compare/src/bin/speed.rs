@@ -11,10 +11,10 @@
 //!
 //! With `--plain` each line is a family and then, after tabs, the times of the first two, and of each network whole and run.
 
-use compare::lemon::{self, NETWORKS};
-use compare::problems::{families, Buffers, Family, Problem, Solving};
-use compare::proved;
-use compare::timing::{median, microseconds};
+use compare::drawing::problems::{families, Buffers, Family, Problem, Solving};
+use compare::harness::lemon::{self, NETWORKS};
+use compare::harness::proved;
+use compare::harness::timing::{median, microseconds};
 use std::process::exit;
 
 /// The graphs of a family.
@@ -29,7 +29,7 @@ const ROUNDS: usize = 11;
 /// The width of the families' names in the table.
 const NAMES: usize = 56;
 
-/// The two calls.
+/// The calls that are timed.
 const CALLS: [(&str, Solving); 2] = [
     ("the proved solver", proved::solve),
     ("the Bellman-Ford program", reference::solve),

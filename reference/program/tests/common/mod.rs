@@ -282,8 +282,8 @@ pub fn measures(line: [i64; 7]) -> Measures {
     }
 }
 
-/// Tests that all eight calls that take a graph refuse it so, given other
-/// numbers of right lengths.
+/// Tests that every call that takes a graph refuses it so, given other numbers
+/// of right lengths.
 pub fn all_refuse(graph: &Graph, expected: Refusal) {
     let (n, m) = (vertices(graph), graph.edges as usize);
     let (bound, chosen) = (vec![1; n], vec![0; m]);

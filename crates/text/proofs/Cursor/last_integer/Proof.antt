@@ -3,7 +3,7 @@ use mathlib.Core.Path.{sym, ap, _∙_}
 use denote.Ref.{now}
 use mir.Facts.{toZ-ofZ}
 use mir.Syntax.{w32}
-use Rattle.text.proofs.Integers.{integer-fits}
+use Rattle.numerals.proofs.Integers.{integer-fits}
 use Rattle.layout.specs.Text.{integer}
 use Rattle.text.specs.Cursor.{nextIntegerSays}
 use Rattle.text.proofs.Shapes.{integer-nil, took, spoilt, one-bad, one-last}

@@ -3,9 +3,9 @@ use mathlib.Core.Path.{sym, ap, _∙_}
 use denote.Ref.{now}
 use mir.Facts.{toZ-ofZ}
 use mir.Syntax.{w32}
-use Rattle.text.proofs.Integers.{integer-fits}
+use Rattle.numerals.proofs.Integers.{integer-fits}
 use Rattle.layout.specs.Text.{integer}
-use Rattle.text.specs.Cursor.{integerSays}
+use Rattle.numerals.specs.Numerals.{integerSays}
 use Rattle.text.proofs.Pieces.{word-is, word-past}
 use Rattle.text.proofs.Shapes.{next-is, next-bad}
 use borrow.Author.Needs.{needs}

@@ -2,7 +2,7 @@
 use mathlib.Core.Path.{sym, ap, _∙_}
 use denote.Ref.{now}
 use Rattle.layout.specs.Text.{natural}
-use Rattle.text.specs.Cursor.{naturalSays}
+use Rattle.spelling.specs.Spelling.{naturalSays}
 use Rattle.text.proofs.Pieces.{word-is, word-past}
 use Rattle.text.proofs.Shapes.{next-is, next-bad}
 use borrow.Author.Needs.{needs}

@@ -1,0 +1,4 @@
+pub mod Over
+pub mod Numbers
+pub mod Signs
+pub mod Parts

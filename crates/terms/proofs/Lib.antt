@@ -1,0 +1,4 @@
+-- The laws of terms.
+pub mod Machine
+pub mod Products
+pub mod Steps
