@@ -1,4 +1,5 @@
-/* The calls of Jangoripu, exported from the static library libjangoripu.a, and a small layer over them at the end of this file.
+/* The calls of Jangoripu, exported by the static library libjangoripu.a and by the shared library libjangoripu.so.1, which is made of the same
+ * objects, and a small layer over them at the end of this file.
  *
  * A sheet is a graph: fish are its vertices, pairs its edges, merits its weights, limits its bounds; a plan is a subgraph, a group an
  * odd set and a leftover a slack. On a two-sided sheet (a bipartite graph) the dams are the rows and the sires the columns; on a
@@ -46,6 +47,9 @@
 #include <stdbool.h>
 #include <stddef.h>
 #include <stdint.h>
+
+/* The version of all that comes together: the libraries, the programs, the command and the module. */
+#define JANGORIPU_VERSION "1.0.0"
 
 #ifdef __cplusplus
 extern "C" {

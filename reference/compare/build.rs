@@ -1,4 +1,4 @@
-//! Links the proved calls: `rt staticlib jangoripu` writes the archive.
+//! Links the proved calls: `sh scripts/build` writes the archive.
 
 fn main() {
     let root = std::env::var("CARGO_MANIFEST_DIR").unwrap();

@@ -2,6 +2,8 @@
 
 pub mod files;
 pub mod guard;
+#[path = "../../../../include/jangoripu.rs"]
+pub mod layer;
 pub mod lemon;
 pub mod lending;
 pub mod proved;

@@ -246,13 +246,52 @@ pub fn rust_calls(text: &str) -> Parsed<Vec<Call>> {
     Ok(calls)
 }
 
-/// The whole numbers that a header gives names to, by `#define` and in enumerations.
+/// The whole numbers that a Rust text gives names to: `pub const NAME: TYPE = NUMBER;`.
+pub fn rust_constants(text: &str) -> Parsed<Vec<(String, i64)>> {
+    let lines = text.lines().map(|line| line.split("//").next().unwrap());
+    let lines = lines.filter(|line| line.trim_start().starts_with("pub const "));
+    lines
+        .map(|line| match tokens(line)[..] {
+            ["pub", "const", name, ":", kind, "=", value, ";"] => {
+                rust_type(kind)?;
+                Ok((name.into(), number(&value.replace('_', ""))? as i64))
+            }
+            _ => Err(format!("no constant: {line}")),
+        })
+        .collect()
+}
+
+/// What differs between the numbers that are named in C, with this prefix, and in Rust, without it.
+pub fn constant_differences(
+    prefix: &str,
+    c: &[(String, i64)],
+    rust: &[(String, i64)],
+) -> Vec<String> {
+    let prefixed = |name: &String| format!("{prefix}{name}");
+    let mut told = Vec::new();
+    for (name, value) in c {
+        let named = rust.iter().filter(|(other, _)| prefixed(other) == *name);
+        match named.map(|(_, value)| value).collect::<Vec<_>>()[..] {
+            [] => told.push(format!("{name}: not in Rust")),
+            [other] if other == value => {}
+            [other] => told.push(format!("{name}: {value} and {other}")),
+            _ => told.push(format!("{name}: twice")),
+        }
+    }
+    let only_rust = rust.iter().map(|(name, _)| prefixed(name));
+    let only_rust = only_rust.filter(|name| !c.iter().any(|(other, _)| other == name));
+    told.extend(only_rust.map(|name| format!("{name}: not in C")));
+    told
+}
+
+/// The whole numbers that a header gives names to, by `#define` and in enumerations; a text in quotes is none.
 pub fn constants(header: &str) -> Parsed<Vec<(String, i64)>> {
     let header = Header::of(header)?;
     let mut constants = Vec::new();
     for (name, value) in &header.defined {
         let is_macro = name.contains('(');
-        if !is_macro && !value.is_empty() {
+        let is_text = value.len() > 1 && value.starts_with('"') && value.ends_with('"');
+        if !is_macro && !is_text && !value.is_empty() {
             constants.push((name.clone(), number(value)? as i64));
         }
     }

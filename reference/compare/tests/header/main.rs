@@ -1,10 +1,11 @@
-//! The header include/jangoripu.h beside the declarations that the proved calls are linked by, and beside the constants and the refusals of
-//! the separately written program.
+//! The header include/jangoripu.h beside the declarations and the constants of include/jangoripu.rs, which the proved calls are linked by,
+//! and beside the constants and the refusals of the separately written program.
 
 mod declarations;
 mod refusals;
 
-use declarations::{c_calls, constants, differences, rust_calls, Call, Type};
+use declarations::{c_calls, constant_differences, constants, differences};
+use declarations::{rust_calls, rust_constants, Type};
 use reference::assignment::{ASSIGNMENT_BOUNDS, ASSIGNMENT_TEXT};
 use reference::graph::{MOST_BOUND, MOST_EDGES, MOST_GENERAL, MOST_PRICE};
 use reference::graph::{MOST_SETS, MOST_SIDE, MOST_VERTICES, MOST_WEIGHT};
@@ -19,9 +20,18 @@ use std::collections::BTreeMap;
 use std::fs;
 use std::path::Path;
 
-fn header() -> String {
+fn included(name: &str) -> String {
     let root = concat!(env!("CARGO_MANIFEST_DIR"), "/../..");
-    fs::read_to_string(format!("{root}/include/jangoripu.h")).unwrap()
+    fs::read_to_string(format!("{root}/include/{name}")).unwrap()
+}
+
+fn header() -> String {
+    included("jangoripu.h")
+}
+
+/// The Rust layer, whose declarations the comparisons are linked by.
+fn layer() -> String {
+    included("jangoripu.rs")
 }
 
 /// All Rust files of a folder and of those in it, one after the other.
@@ -37,11 +47,6 @@ fn rust_files(folder: &Path) -> String {
         .collect()
 }
 
-fn linked() -> Vec<Call> {
-    let source = Path::new(env!("CARGO_MANIFEST_DIR")).join("src");
-    rust_calls(&rust_files(&source)).unwrap()
-}
-
 fn header_constants() -> BTreeMap<String, i64> {
     let listed = constants(&header()).unwrap();
     let named: BTreeMap<_, _> = listed.iter().cloned().collect();
@@ -51,9 +56,27 @@ fn header_constants() -> BTreeMap<String, i64> {
 
 #[test]
 fn the_calls_are_linked_as_the_header_declares_them() {
-    let (c, rust) = (c_calls(&header()).unwrap(), linked());
+    let (c, rust) = (c_calls(&header()).unwrap(), rust_calls(&layer()).unwrap());
     assert!(!c.is_empty());
     assert_eq!(differences(&c, &rust), [""; 0]);
+}
+
+/// The comparisons declare no call themselves.
+#[test]
+fn the_calls_are_declared_once() {
+    let source = rust_files(&Path::new(env!("CARGO_MANIFEST_DIR")).join("src"));
+    assert!(source.contains("jangoripu_solve(") && source.contains("include/jangoripu.rs"));
+    assert!(!source.contains("extern \"C\""));
+}
+
+#[test]
+fn the_layer_has_the_constants_of_the_header() {
+    let (c, rust) = (
+        constants(&header()).unwrap(),
+        rust_constants(&layer()).unwrap(),
+    );
+    assert!(!c.is_empty());
+    assert_eq!(constant_differences("JANGORIPU_", &c, &rust), [""; 0]);
 }
 
 /// The calls' names begin with the library's, and no inline function has one of them.
@@ -73,6 +96,7 @@ const C: &str = "
     extern \"C\" {
     #endif
     #define LENGTH 2 /* in numbers */
+    #define VERSION \"1.2.3\"
     #define BOTH(a, b) \\
         a, b
     enum sorts { FIRST, SECOND = 4, THIRD };
@@ -261,6 +285,71 @@ fn constants_are_read() {
     assert_eq!(constants(C).unwrap(), expected);
     assert!(constants(&C.replace("LENGTH 2", "LENGTH two")).is_err());
     assert!(constants(&C.replace("SECOND = 4", "SECOND = FIRST")).is_err());
+    for text in ["\"1.2.3", "1.2.3", "\""] {
+        assert!(constants(&C.replace("\"1.2.3\"", text)).is_err(), "{text}");
+    }
+}
+
+const NAMED: &str = "
+    /// A remark: pub const FOURTH: u32 = 6;
+    pub const LENGTH: usize = 2; // in numbers
+    pub mod inner {
+        pub const FIRST: u32 = 0;
+        pub const SECOND: u32 = 4;
+    }
+    impl Sorts {
+        pub const THIRD: i32 = 5;
+    }
+    const NOT_NAMED: u32 = 7;
+";
+
+/// What differs if the names in C and in Rust are altered so.
+fn renamed(c: (&str, &str), rust: (&str, &str)) -> Vec<String> {
+    assert!(C.contains(c.0) && NAMED.contains(rust.0));
+    let c = constants(&C.replacen(c.0, c.1, 1)).unwrap();
+    let c = c.iter().map(|(name, value)| (format!("C_{name}"), *value));
+    let c: Vec<_> = c.collect();
+    let rust = rust_constants(&NAMED.replacen(rust.0, rust.1, 1)).unwrap();
+    constant_differences("C_", &c, &rust)
+}
+
+#[test]
+fn a_constant_that_differs_is_told() {
+    assert_eq!(renamed(AS_IT_IS, AS_IT_IS), [""; 0]);
+    assert_eq!(renamed(AS_IT_IS, ("= 4", "= 0_4")), [""; 0]);
+    for (from, to) in [
+        ("LENGTH 2", "LENGTH 3"),
+        ("LENGTH 2", "LENGTHS 2"),
+        ("LENGTH 2", "LENGTH"),
+        ("SECOND = 4", "SECOND"),
+        ("THIRD", "THIRD, FOURTH"),
+        (", THIRD", ""),
+    ] {
+        assert_ne!(renamed((from, to), AS_IT_IS), [""; 0], "{from} as {to}");
+    }
+    for (from, to) in [
+        ("= 2;", "= 3;"),
+        ("LENGTH: usize", "LONG: usize"),
+        ("pub const LENGTH", "const LENGTH"),
+        ("pub const SECOND: u32 = 4;", ""),
+        ("= 5;", "= 5_0;"),
+        ("const NOT_NAMED", "pub const NAMED"),
+        ("const NOT_NAMED: u32 = 7", "pub const FIRST: u32 = 0"),
+        ("= 7;", "= 7;\npub const FIRST: u32 = 1;"),
+    ] {
+        assert_ne!(renamed(AS_IT_IS, (from, to)), [""; 0], "{from} as {to}");
+    }
+    for (from, to) in [
+        ("= 2;", "= FIRST;"),
+        ("= 2;", "= 1 + 1;"),
+        ("= 4;", "="),
+        ("THIRD: i32", "THIRD: isize"),
+        ("THIRD: i32 = 5", "THIRD: i32 = -5"),
+    ] {
+        assert!(NAMED.contains(from));
+        let altered = NAMED.replacen(from, to, 1);
+        assert!(rust_constants(&altered).is_err(), "{from} as {to}");
+    }
 }
 
 /// The length of an index of as many vertices and edges as a graph may have.
