@@ -1,4 +1,6 @@
 // Writes a text anew: the numbers on the size line and the later lines in the one way, and every other byte as it is.
+#![tactic(auto)]
+
 ghost use Rattle.std.specs.Prelude.{◌≡◌, ◌||◌, not, ◌+◌, ◌≤◌, length};
 ghost use Rattle.layout.specs.Text.{blank_line, comment_line};
 ghost use Rattle.layout.specs.Rewrite.{word_anew, line_anew, text_anew};

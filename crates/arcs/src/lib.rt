@@ -1,4 +1,6 @@
 // What the searches are lent: the kept edges of each row vertex, and where the list of each vertex starts and stops.
+#![tactic(auto)]
+
 ghost use Rattle.std.specs.Prelude.{ℕ, ◌+◌, ◌-◌, ◌≤◌, ◌<◌, ◌≡◌, cond, length, get_or};
 ghost use Rattle.graph.specs.Limits.{most_vertices, most_edges};
 ghost use Rattle.graph.specs.Graph.{graph_of, vertices_in};

@@ -1,4 +1,6 @@
 // Reads a DIMACS assignment text: a graph (sheet) whose bounds (limits) are all 1.
+#![tactic(auto)]
+
 ghost use Rattle.std.specs.Prelude.{◌≤◌, ◌≡◌, pos, length, replicate};
 ghost use Rattle.graph.specs.Limits.{most_vertices, most_edges};
 ghost use Rattle.graph.specs.Refusal.{told, reported, filled, output};
@@ -20,14 +22,14 @@ use sources::SourceLine;
 use text::Cursor;
 
 // What the problem line tells: its number, and the numbers of nodes and of arcs; and the cursor after it.
-#[derive(Drop)]
+#[derive(Clone, Copy)]
 struct Problem {
     line: u64,
     nodes: u32,
     arcs: u32,
 }
 
-#[derive(Drop)]
+#[derive(Clone, Copy)]
 enum FoundProblem {
     At { problem: Problem, next: Cursor },
     Refused(Refusal),
@@ -60,7 +62,7 @@ fn find_problem(text: &[u8]) -> FoundProblem
 }
 
 // The source nodes are known: their number, and the cursor before the first arc or the end.
-#[derive(Drop)]
+#[derive(Clone, Copy)]
 enum FoundSources {
     Until { rows: u32, at: Cursor },
     Refused(Refusal),

@@ -1,4 +1,6 @@
 // Writes a graph (sheet) whose bounds (limits) are all 1 as a DIMACS assignment text, after the tests on all that is lent.
+#![tactic(auto)]
+
 ghost use Rattle.std.specs.Prelude.{◌+◌, ◌≤◌, ◌<◌, ◌≡◌, [], ◌∷◌, length};
 ghost use Rattle.graph.specs.Limits.{longest_text};
 ghost use Rattle.graph.specs.Refusal.{yields, told, passing, reported, output};

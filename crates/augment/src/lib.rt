@@ -1,4 +1,6 @@
 // The walk back along an augmenting path.
+#![tactic(auto)]
+
 ghost use Rattle.std.specs.Prelude.{ℕ, ◌≤◌, ◌<◌, ◌≡◌, [], length};
 ghost use Rattle.graph.specs.Limits.{most_vertices, most_edges};
 ghost use Rattle.graph.specs.Graph.{graph_of};

@@ -1,4 +1,6 @@
 // Bits of rows of 64-bit words.
+#![tactic(auto)]
+
 ghost use Rattle.std.specs.Prelude.{◌+◌, ◌*◌, ◌-◌, ◌/◌, ◌%◌, ◌^◌, ◌≤◌, ◌<◌, ◌≡◌, length};
 ghost use Rattle.integers.specs.Sum.{sum};
 ghost use Rattle.graph.specs.Graph.{some?};

@@ -1,4 +1,6 @@
 // The tests that calls make on the numbers of a graph, on bounds, on a subgraph and on prices.
+#![tactic(auto)]
+
 ghost use Rattle.std.specs.Prelude.{ℕ, suc, ◌+◌, ◌-◌, ◌^◌, ◌<◌, ◌≡◌, not, [], ◌∷◌, eqb, length, get_or, set};
 ghost use Rattle.graph.specs.Refusal.{yields, refuses, once, lowest, passing};
 ghost use Rattle.graph.specs.Graph.{graph_of};
@@ -13,7 +15,7 @@ use lowest::Lowest;
 pub const TABLE_FLAGS: usize = MOST_VERTICES * MOST_VERTICES;
 
 // What a check answers.
-#[derive(Drop)]
+#[derive(Clone, Copy)]
 pub enum Check {
     Passed,
     Refused(Refusal),

@@ -1,4 +1,6 @@
 // Writes numbers in decimal.
+#![tactic(auto)]
+
 ghost use Rattle.std.specs.Prelude.{◌+◌, ◌≤◌, ◌≡◌, [], ◌∷◌, ◌++◌, length};
 ghost use Rattle.integers.specs.Integer.{up, dn};
 ghost use Rattle.layout.specs.Text.{decimal, signed};

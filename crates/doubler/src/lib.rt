@@ -1,4 +1,6 @@
 // The doubled graph of a general graph: its shape, its edges, and the sums of its prices.
+#![tactic(auto)]
+
 ghost use Rattle.std.specs.Prelude.{ℕ, ◌+◌, ◌≤◌, ◌<◌, ◌≡◌, ◌++◌, pos, ◌+ℤ◌, length, get_or};
 ghost use Rattle.graph.specs.declared.Kind.TheVariants.{Bipartite};
 ghost use Rattle.graph.specs.Limits.{most_doubled_edges};

@@ -1,1 +1,2 @@
 // Laws only: the doubled graph passes the tests, and prices from it cover the graph, up to its largest weight.
+#![tactic(auto)]

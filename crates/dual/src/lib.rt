@@ -1,4 +1,6 @@
 // What the solver and the calls that measure and that price answer, and the half points that they count in.
+#![tactic(auto)]
+
 ghost use Rattle.std.specs.Prelude.{◌≡◌, ◌+◌, ◌*◌, ◌^◌};
 ghost use Rattle.integers.specs.Integer.{up, dn, Within};
 ghost use Rattle.dual.specs.Gap.{half_points};
@@ -6,7 +8,7 @@ ghost use Rattle.dual.specs.Gap.{half_points};
 use graph::Refusal;
 
 // The numbers of a measuring: the subgraph's weight (merit) in points, and in half points the prices' total, the four slacks (leftovers) and the gap.
-#[derive(Drop)]
+#[derive(Clone, Copy)]
 pub struct Measures {
     pub weight: i64,
     pub total: i64,
@@ -18,21 +20,21 @@ pub struct Measures {
 }
 
 // The measuring call's answer.
-#[derive(Drop)]
+#[derive(Clone, Copy)]
 pub enum MeasureAnswer {
     Measured(Measures),
     Refused(Refusal),
 }
 
 // The solver's answer.
-#[derive(Drop)]
+#[derive(Clone, Copy)]
 pub enum SolveAnswer {
     Solved,
     Refused(Refusal),
 }
 
 // The answer of the call that prices a general graph.
-#[derive(Drop)]
+#[derive(Clone, Copy)]
 pub enum PriceAnswer {
     Priced,
     Refused(Refusal),

@@ -1,4 +1,6 @@
 // The dual step: the nearest open vertex is settled; when the search is left, the prices move, once for all settled vertices.
+#![tactic(auto)]
+
 ghost use Rattle.std.specs.Prelude.{◌+◌, ◌≤◌, ◌<◌, ◌≡◌, length};
 ghost use Rattle.graph.specs.Limits.{most_vertices};
 ghost use Rattle.method.specs.Method.{top_price};

@@ -1,4 +1,6 @@
 // Reads the edges of a graph from a text: of coordinates (a sheet), or of an assignment.
+#![tactic(auto)]
+
 ghost use Rattle.std.specs.Prelude.{ℕ, ◌-◌, ◌≤◌, ◌≡◌, true, List, ltb, ℤ, neg_ℤ, length};
 ghost use Rattle.std.proofs.Math.Option.{some};
 ghost use Rattle.graph.specs.Limits.{most_edges};
@@ -18,7 +20,7 @@ use lines::{FoundLine, Later};
 use text::{Cursor, EdgeLine, Pair};
 
 // The sort of text that edges are read from.
-#[derive(Drop)]
+#[derive(Clone, Copy)]
 pub enum EdgeText {
     Coordinates { rules: Rules, field: Field },
     Assignment,
@@ -54,7 +56,7 @@ fn edge_words(text: &[u8], start: usize, end: usize, rules: Rules, field: Field)
 }
 
 // What the line of an edge is: an edge in range, whose ends are not looked up yet, or refused.
-#[derive(Drop)]
+#[derive(Clone, Copy)]
 enum TextEdge {
     Is { row: u32, column: u32, weight: i32 },
     Refused(Fault),
@@ -137,7 +139,7 @@ fn wanted_arc(line: &[u8], s: Shape, more: bool) -> TextEdge
 }
 
 // The next edge and the cursor after it; or the text ends as it should; or it is refused.
-#[derive(Drop)]
+#[derive(Clone, Copy)]
 pub enum NextEdge {
     Is {
         row: u32,

@@ -1,4 +1,6 @@
 // The lines of an assignment text that are neither blank nor comments: the problem line, source nodes and arcs.
+#![tactic(auto)]
+
 ghost use Rattle.std.specs.Prelude.{◌≡◌};
 ghost use Rattle.layout.specs.Text.{words, same};
 ghost use Rattle.layout.specs.AssignmentText.{problem_of, source_of, arc_of, entry_on};
@@ -10,7 +12,7 @@ use spelling::Natural;
 use text::{EdgeLine, Pair};
 
 // What a line is.
-#[derive(Drop)]
+#[derive(Clone, Copy)]
 pub enum Entry {
     Problem { nodes: u32, arcs: u32 },
     Source(u32),

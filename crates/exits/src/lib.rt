@@ -1,4 +1,6 @@
 // How far a vertex is from a way out, by its price alone.
+#![tactic(auto)]
+
 ghost use Rattle.std.specs.Prelude.{◌+◌, ◌-◌, ◌≤◌, ◌<◌, ◌≡◌};
 ghost use Rattle.method.specs.Method.{level, top_price};
 ghost use Rattle.method.specs.Front.{shut, near_exit, far_exit};

@@ -1,4 +1,6 @@
 // Reads files by name, and writes to standard output.
+#![tactic(auto)]
+
 ghost use Rattle.std.specs.Prelude.{◌≤◌};
 ghost use Rattle.std.proofs.Math.ListN as list;
 ghost use Rattle.io.specs.Counts.{IsPrefixLen};

@@ -1,4 +1,6 @@
 // Outputs that are cleared or filled.
+#![tactic(auto)]
+
 ghost use Rattle.std.specs.Prelude.{◌≡◌, pos, length, replicate};
 
 // Sets every number of `out` to k.

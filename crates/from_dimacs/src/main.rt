@@ -1,5 +1,7 @@
 // The program `from_dimacs`: reads crosses.asn from the working folder, and writes the sheet of that DIMACS assignment text, or a refusal.
 // Its stored run is the worked example's sheet of document 01 as an assignment text, with a comment and a blank line.
+#![tactic(auto)]
+
 mod output;
 
 use files::FILE_BYTES;

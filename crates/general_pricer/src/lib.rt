@@ -1,4 +1,6 @@
 // Prices a general graph (a tank sheet): the doubled graph is solved between the tests of what is lent and the sums that are handed out.
+#![tactic(auto)]
+
 ghost use Rattle.std.specs.Prelude.{◌+◌, ◌≡◌, length};
 ghost use Rattle.graph.specs.Refusal.{told};
 ghost use Rattle.graph.specs.Graph.{graph_of, vertices_in};

@@ -8,7 +8,7 @@ use lib.Dec.{eqb}
 use lib.IntN.{ℤ, pos, negsuc}
 use lib.ListN.{length}
 use lib.Signed.{◌≤ℤ◌}
-use borrow.Author.Tests.{leb-true, le-leb, eqb-true, eq-eqb, not_true}
+use borrow.Author.Tests.{leb-true, le-leb, eqb-true, eq-eqb, not-true}
 use Rattle.integers.specs.Integer.{Within}
 use Rattle.integers.proofs.Order.{order, between-true, le-between}
 use Rattle.graph.specs.Limits.{greatest_weight, greatest_bound}
@@ -35,7 +35,7 @@ graph_passed g lengths p =
       };
       weight_long = eqb-true (length g.weight) g.edges h.1.1.0;
       weights = p.1.1.0;
-      apart = λ e l. not_true (joined g e (row_at g e) (column_at g e)) (p.1.1.1.0 e l);
+      apart = λ e l. not-true (joined g e (row_at g e) (column_at g e)) (p.1.1.1.0 e l);
     }
 
 -- Whatever is yielded after the tests, the graph has passed.

@@ -7,7 +7,7 @@ use mathlib.Core.Option.{Option, none, some}
 use native.Mathlib.Omega.{arith}
 use native.Mathlib.Numerals.{add-one}
 use native.Mathlib.Decide.{ℕ_discrete}
-use borrow.Author.Tests.{not_true, not-false}
+use borrow.Author.Tests.{not-true, not-false}
 use Rattle.graph.specs.declared.Fault.{Fault}
 use Rattle.graph.specs.Refusal.{Outcome, yields, refuses, Test, once, or_else, lowest, found, passing}
 use Rattle.graph.specs.Graph.{some?, every}
@@ -109,7 +109,7 @@ some_cong (suc n) f g h = ap₂ ◌||◌ (some_cong n f g (λ k l. h k (omega ar
 
 -- Each has it.
 pub every_true : (n : ℕ) (f : ℕ → Bool) → every n f ≡ true → (k : ℕ) → k < n → f k ≡ true
-every_true n f e k l = not-false (f k) (some_none n (λ j. not (f j)) (not_true (some? n (λ j. not (f j))) e) k l)
+every_true n f e k l = not-false (f k) (some_none n (λ j. not (f j)) (not-true (some? n (λ j. not (f j))) e) k l)
 
 pub true_every : (n : ℕ) (f : ℕ → Bool) → ((k : ℕ) → k < n → f k ≡ true) → every n f ≡ true
 true_every n f h = ap not (none_some n (λ j. not (f j)) (λ k l. ap not (h k l)))

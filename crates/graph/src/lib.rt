@@ -1,4 +1,6 @@
 // The types that every call speaks of: kinds of graph, and refusals; how many vertices there are, an edge's ends, and degrees.
+#![tactic(auto)]
+
 ghost use Rattle.std.specs.Prelude.{ℕ, ◌-◌, ◌≤◌, ◌<◌, ◌≡◌, [], length, get_or};
 ghost use Rattle.graph.specs.Limits.{most_vertices};
 ghost use Rattle.graph.specs.Refusal.{number_of};
@@ -8,14 +10,14 @@ ghost use Rattle.graph.specs.Passed.{Sound, MarksHold};
 ghost use Rattle.graph.specs.Degrees.{Grown};
 
 // The sort of sheet: two-sided, from row vertices to column vertices, or one-sided.
-#[derive(Drop)]
+#[derive(Clone, Copy)]
 pub enum Kind {
     Bipartite,
     General,
 }
 
 // What tells a graph but for its edges: its kind, and how many rows, columns and edges it has.
-#[derive(Drop)]
+#[derive(Clone, Copy)]
 pub struct Shape {
     pub kind: Kind,
     pub rows: u32,
@@ -63,14 +65,14 @@ pub const WORKSPACE_NUMBERS: usize = 4096;
 pub const MOST_INDEX: usize = MOST_VERTICES + 1 + 2 * MOST_EDGES;
 
 // The answer of the two calls on an index: what is lent holds the graph's index, or a refusal.
-#[derive(Drop)]
+#[derive(Clone, Copy)]
 pub enum IndexAnswer {
     Indexed,
     Refused(Refusal),
 }
 
 // What is refused, in the order of the refusal table.
-#[derive(Drop)]
+#[derive(Clone, Copy)]
 pub enum Fault {
     TextLength,
     Header,
@@ -97,7 +99,7 @@ pub enum Fault {
 }
 
 // A refusal: what is refused, and its place.
-#[derive(Drop)]
+#[derive(Clone, Copy)]
 pub struct Refusal {
     pub fault: Fault,
     pub place: u64,
@@ -134,7 +136,7 @@ pub fn number(fault: Fault) -> u32
 }
 
 // The two ends of an edge, as vertices.
-#[derive(Drop)]
+#[derive(Clone, Copy)]
 pub struct Ends {
     pub first: usize,
     pub second: usize,

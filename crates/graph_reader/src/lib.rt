@@ -1,4 +1,6 @@
 // Reads a text of a graph (sheet).
+#![tactic(auto)]
+
 ghost use Rattle.std.specs.Prelude.{◌≡◌, pos, length};
 ghost use Rattle.graph.specs.Refusal.{told, reported, output};
 ghost use Rattle.graph.specs.Limits.{most_edges};
@@ -30,7 +32,7 @@ fn header_on(line: &[u8], field: Field) -> HeaderKind
 }
 
 // What a size line is: a shape in range, or refused.
-#[derive(Drop)]
+#[derive(Clone, Copy)]
 enum ShapeLine {
     Is(Shape),
     Refused(Fault),

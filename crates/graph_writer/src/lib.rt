@@ -1,4 +1,6 @@
 // Writes a graph (sheet) as a Matrix Market text, its edges in a given order or in the graph's own.
+#![tactic(auto)]
+
 ghost use Rattle.std.specs.Prelude.{◌≡◌, [], ◌∷◌, ◌+◌, ◌≤◌, ◌<◌, pos, length, get_or};
 ghost use Rattle.graph.specs.Limits.{most_edges, longest_text};
 ghost use Rattle.graph.specs.Graph.{graph_of};

@@ -1,4 +1,6 @@
 // Header lines of texts of coordinates and of numbers.
+#![tactic(auto)]
+
 ghost use Rattle.std.specs.Prelude.{◌≡◌, [], ◌∷◌};
 ghost use Rattle.layout.specs.Text.{header};
 ghost use Rattle.keywords.specs.Keywords.{within, follow};
@@ -34,7 +36,7 @@ pub fn is_header(line: &[u8], a: &[u8], b: &[u8], c: &[u8], d: &[u8]) -> bool
 }
 
 // The kind of graph that a header line tells, if it is the header of a text of coordinates with a field.
-#[derive(Drop)]
+#[derive(Clone, Copy)]
 pub enum HeaderKind {
     Is(Kind),
     Not,

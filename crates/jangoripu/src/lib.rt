@@ -2,6 +2,8 @@
 //
 // Each returns 0 for a result, or the number of a refusal, and tells the refusal's place. A kind is a bool: false for bipartite (two-sided),
 // true for general (one-sided); so is the sort of numbers: false for bounds (limits), true for prices. No other value can be passed.
+#![tactic(auto)]
+
 ghost use Rattle.std.specs.Prelude.{ℕ, ℤ, pos, length};
 ghost use Rattle.layout.specs.GraphText.{read_graph};
 ghost use Rattle.layout.specs.NumberText.{read_numbers};

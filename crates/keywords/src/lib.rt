@@ -1,4 +1,6 @@
 // The words of a line that are fixed: a first word, whose case is kept, and words in either case.
+#![tactic(auto)]
+
 ghost use Rattle.std.specs.Prelude.{◌≡◌, map};
 ghost use Rattle.layout.specs.Text.{lower, same, begins};
 ghost use Rattle.keywords.specs.Keywords.{within, KeyTaken, FirstWord};
@@ -51,7 +53,7 @@ pub fn same_folded(w: &[u8], k: &[u8]) -> bool
 }
 
 // How far the words that are looked for are found in a line: up to a place, or not.
-#[derive(Drop)]
+#[derive(Clone, Copy)]
 pub enum Key {
     After(usize),
     Not,

@@ -36,9 +36,9 @@ just_first : (s : Bool) {t : Bool} → t ≡ true → one (s && t) ≡ one s
 just_first true e = ap one e
 just_first false e = refl
 
-not_true : (t : Bool) → not t ≡ true → t ≡ false
-not_true true e = absurd (false≢true e)
-not_true false e = refl
+not-true : (t : Bool) → not t ≡ true → t ≡ false
+not-true true e = absurd (false≢true e)
+not-true false e = refl
 
 -- An edge in two subgraphs, by the ends that it has in the set.
 edge_even : (s t : Bool) (a b : ℕ) → (s ≡ true → t ≡ false → b ≤ a) → (s ≡ false → t ≡ true → a ≤ b) → b * one s + a * one t ≤ a * one s + b * one t
@@ -105,7 +105,7 @@ module _ {rows n m : ℕ} {first second : ℕ → ℕ} {S : ℕ → Bool} {a b :
 
   far-even : (v : ℕ) → v < n → F v * degree b v ≤ F v * degree a v
   far-even v l = vertex_even (S v && not (ltb v rows)) (degree b v) (degree a v)
-      (λ e. cut.far v (ltb-false v rows (not_true (ltb v rows) (both (S v) (not (ltb v rows)) e).1)) l (both (S v) (not (ltb v rows)) e).0)
+      (λ e. cut.far v (ltb-false v rows (not-true (ltb v rows) (both (S v) (not (ltb v rows)) e).1)) l (both (S v) (not (ltb v rows)) e).0)
 
   vertices : (v : ℕ) → v < n → less v ≤ more v
   vertices v l = omega (arith, near_even v l, far-even v l)

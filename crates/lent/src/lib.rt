@@ -1,4 +1,6 @@
 // What a caller lends: tests of the lengths and the numbers of a graph.
+#![tactic(auto)]
+
 ghost use Rattle.std.specs.Prelude.{◌≡◌, ◌&&◌, ◌∷◌, eqb, length};
 ghost use Rattle.graph.specs.declared.Fault.TheVariants.{LentLength};
 ghost use Rattle.graph.specs.Refusal.{yields, once, passing};

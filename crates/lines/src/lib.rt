@@ -1,4 +1,6 @@
 // The walk over the lines of a text, for every reader: the next line that counts, or the refusal that takes its place.
+#![tactic(auto)]
+
 ghost use Rattle.std.specs.Prelude.{◌≡◌, ◌+◌, drop, [], ◌∷◌, ◌||◌};
 ghost use Rattle.graph.specs.declared.Fault.TheVariants.{TextLength, Sizes, LentLength};
 ghost use Rattle.graph.specs.Refusal.{yields, once, passing};
@@ -13,7 +15,7 @@ use graph::{Fault, LONGEST_LINE, LONGEST_TEXT, Refusal};
 use text::{Cursor, Line};
 
 // The next line that counts and the cursor after it; or the lines end, or a line is over 1,024 bytes, with that line's number.
-#[derive(Drop)]
+#[derive(Clone, Copy)]
 pub enum FoundLine {
     At {
         start: usize,
@@ -25,7 +27,7 @@ pub enum FoundLine {
 }
 
 // Which lines do not count.
-#[derive(Drop)]
+#[derive(Clone, Copy)]
 enum Skipped {
     Nothing,
     BlankAndComment,
@@ -90,7 +92,7 @@ pub fn entry_line(s: &[u8], c: Cursor) -> FoundLine
 }
 
 // The header line or the size line, from its start to its end, and the cursor after it; or its refusal.
-#[derive(Drop)]
+#[derive(Clone, Copy)]
 pub enum Opened {
     At {
         start: usize,
@@ -130,7 +132,7 @@ pub fn size_line(s: &[u8], c: Cursor) -> Opened
 }
 
 // A later line and the cursor after it; or the lines end as they should; or the text is refused.
-#[derive(Drop)]
+#[derive(Clone, Copy)]
 pub enum Later {
     At {
         start: usize,

@@ -1,4 +1,6 @@
 // The lowest item that breaks a test.
+#![tactic(auto)]
+
 ghost use Rattle.std.specs.Prelude.{◌+◌, ◌-◌, ◌≤◌, ◌<◌, ◌≡◌, ◌++◌, leb, length, get_or, pos};
 ghost use Rattle.std.specs.Int.Signed.{le_z};
 ghost use Rattle.integers.specs.Integer.{between};
@@ -11,7 +13,7 @@ ghost use Rattle.lowest.specs.Lowest.{lowest_says};
 use graph::{GREATEST_BOUND, GREATEST_PRICE, GREATEST_WEIGHT, LEAST_WEIGHT, MOST_VERTICES, Shape};
 
 // The lowest item that breaks a test, or that there is none.
-#[derive(Drop)]
+#[derive(Clone, Copy)]
 pub enum Lowest {
     At(usize),
     Nothing,

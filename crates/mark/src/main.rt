@@ -1,5 +1,7 @@
 // The program `mark`: reads sheet.mtx, limits.mtx, plan.mtx and prices.mtx from the working folder, and writes the line of the measuring, or a refusal.
 // Its stored run is the worked example of document 01.
+#![tactic(auto)]
+
 mod output;
 
 use files::FILE_BYTES;

@@ -1,5 +1,7 @@
 // The measuring call: a subgraph (plan) measured against prices.
 // The words `set_vertices`, 2 a set, mark vertices, and `set_edges`, 16 a set, mark edges.
+#![tactic(auto)]
+
 ghost use Rattle.std.specs.Prelude.{ℕ, ◌+◌, ◌*◌, ◌^◌, ◌≤◌, ◌<◌, ◌≡◌, true, ◌&&◌, [], ◌∷◌, eqb, pos, length, get_or};
 ghost use Rattle.std.specs.Int.Signed.{le_z};
 ghost use Rattle.integers.specs.Integer.{Within};
@@ -25,7 +27,7 @@ use integers::both;
 use lowest::Lowest;
 
 // The degrees, the number of odd sets, their loads, and how many chosen edges each of them covers.
-#[derive(Drop)]
+#[derive(Clone, Copy)]
 struct Tables {
     degree: [u32; MOST_VERTICES],
     sets: u32,

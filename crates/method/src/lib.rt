@@ -1,4 +1,6 @@
 // The state of a search, and what is read of weights and edges.
+#![tactic(auto)]
+
 ghost use Rattle.std.specs.Prelude.{◌+◌, ◌*◌, ◌<◌, ◌≡◌, [], pos, ◌+ℤ◌, length, get_or, replicate};
 ghost use Rattle.integers.specs.Integer.{up, Within};
 ghost use Rattle.graph.specs.Limits.{most_vertices, greatest_weight};
@@ -42,7 +44,7 @@ pub const VALUES: usize = 2 * MOST_EDGES;
 pub const MOST_ARCS: usize = 3 * MOST_EDGES;
 
 // The search's state: the labels of the vertices, which are edges, and the end of the path, a number that is no vertex until one is found.
-#[derive(Drop)]
+#[derive(Clone, Copy)]
 pub struct Tree {
     pub label: [u32; MOST_VERTICES],
     pub end: usize,

@@ -1,4 +1,6 @@
 // The nodes and the costs of an assignment text, and the rows, columns and weights that they are.
+#![tactic(auto)]
+
 ghost use Rattle.std.specs.Prelude.{◌+◌, ◌-◌, ◌<◌, ◌≡◌, eqb, pos, neg_ℤ, ◌-ℤ◌, length, get_or};
 ghost use Rattle.integers.specs.Integer.{Within};
 ghost use Rattle.graph.specs.Limits.{greatest_weight};

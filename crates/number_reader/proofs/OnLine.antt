@@ -6,7 +6,7 @@ use mathlib.Core.List.{List, [], ◌∷◌, ◌++◌}
 use mathlib.Core.Option.{Option}
 use lib.Dec.{eqb}
 use lib.IntN.{ℤ}
-use borrow.Author.Tests.{eq-eqb, ne_eqb, not_true, not-false}
+use borrow.Author.Tests.{eq-eqb, ne_eqb, not-true, not-false}
 use mir.Syntax.{w32}
 use mir.Val.{to_z, of_z}
 use mir.Facts.{to_z-of_z}
@@ -33,7 +33,7 @@ module _ (l : List ℕ) {b : Bool} (says : b ≡ header (bytes "matrix" ∷ byte
   header-right q = ap (λ (x : Bool). cond {A = Step (Unit {0})} x (goes tt) (stops Header)) (sym says ∙ not-false b q)
 
   pub header-wrong : not b ≡ true → number_header l ≡ stops Header
-  header-wrong q = ap (λ (x : Bool). cond {A = Step (Unit {0})} x (goes tt) (stops Header)) (sym says ∙ not_true b q)
+  header-wrong q = ap (λ (x : Bool). cond {A = Step (Unit {0})} x (goes tt) (stops Header)) (sym says ∙ not-true b q)
 
 -- The size line.
 module _ (count : ℕ) {o : Option (ℕ × ℕ)} {r : Pair} (says : pair_says r ≡ o) where

@@ -1,4 +1,6 @@
 // Reads a text of bounds (limits) or of prices.
+#![tactic(auto)]
+
 ghost use Rattle.std.specs.Prelude.{◌≡◌, List, [], ℤ, pos, length, replicate};
 ghost use Rattle.graph.specs.Graph.{up_to};
 ghost use Rattle.graph.specs.Refusal.{told, reported, output};
@@ -33,7 +35,7 @@ fn count_in_range(rules: Rules, count: u32) -> bool
 }
 
 // What a size line is: the one asked for, or refused.
-#[derive(Drop)]
+#[derive(Clone, Copy)]
 enum CountLine {
     Right,
     Refused(Fault),
@@ -55,7 +57,7 @@ fn count_on(line: &[u8], count: u32, rules: Rules) -> CountLine
 }
 
 // What a later line is: a number in range, or refused.
-#[derive(Drop)]
+#[derive(Clone, Copy)]
 enum NumberLine {
     Is(i32),
     Refused(Fault),

@@ -1,4 +1,6 @@
 // Writes bounds (limits) or prices as a Matrix Market text.
+#![tactic(auto)]
+
 ghost use Rattle.std.specs.Prelude.{◌≡◌, [], ◌∷◌, ◌++◌, map, ◌+◌, ◌*◌, ◌≤◌, length, replicate};
 ghost use Rattle.graph.specs.Limits.{most_vertices, most_edges, longest_text};
 ghost use Rattle.layout.specs.Text.{bytes, decimal, signed, spaced, unlines};

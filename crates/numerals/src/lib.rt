@@ -1,4 +1,6 @@
 // What a word is as a number: a size or an index, and an integer with a sign.
+#![tactic(auto)]
+
 ghost use Rattle.std.specs.Prelude.{◌<◌, ◌≡◌, pos, neg_ℤ};
 ghost use Rattle.std.proofs.Math.Option.{map};
 ghost use Rattle.layout.specs.Text.{numeral, natural, integer};
@@ -9,7 +11,7 @@ use layout::Rules;
 use spelling::Natural;
 
 // What a word is as an integer.
-#[derive(Drop)]
+#[derive(Clone, Copy)]
 pub enum Integer {
     Is(i32),
     Bad,

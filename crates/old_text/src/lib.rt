@@ -1,4 +1,6 @@
 // Whether the old rules take a text: as a graph (sheet), as a subgraph (plan) of some graph, or as bounds (limits) or prices of some count.
+#![tactic(auto)]
+
 ghost use Rattle.std.specs.Prelude.{ℕ, ◌≡◌, ◌||◌, List, ℤ};
 ghost use Rattle.graph.specs.Refusal.{yields};
 ghost use Rattle.layout.specs.declared.Rules.TheVariants.{Old};

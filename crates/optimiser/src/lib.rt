@@ -1,4 +1,6 @@
 // The stages of the method: what the searches are lent, the first prices, the row vertices served, and the prices handed out.
+#![tactic(auto)]
+
 ghost use Rattle.std.specs.Prelude.{◌-◌, ◌≤◌, ◌<◌, ◌≡◌, length, replicate};
 ghost use Rattle.graph.specs.Limits.{most_vertices};
 ghost use Rattle.graph.specs.Graph.{graph_of, vertices_in, first_end};

@@ -1,4 +1,6 @@
 // What stands at positions of a lent index, and where two lists differ.
+#![tactic(auto)]
+
 ghost use Rattle.std.specs.Prelude.{◌+◌, ◌^◌, ◌≤◌, ◌<◌, ◌≡◌, true, length, get_or};
 ghost use Rattle.graph.specs.Limits.{most_vertices, most_edges, most_index};
 ghost use Rattle.lowest.specs.Lowest.{lowest_says};

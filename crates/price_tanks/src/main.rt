@@ -1,5 +1,7 @@
 // The program `price_tanks`: reads sheet.mtx and limits.mtx from the working folder, and writes the prices of a one-sided (tank) sheet, or a refusal.
 // Its stored run is the three families of document 01's cases 6 and 7, of which doubling takes half points: their total is 3, for 1.5 points.
+#![tactic(auto)]
+
 mod output;
 
 use files::FILE_BYTES;

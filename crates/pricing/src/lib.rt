@@ -1,4 +1,6 @@
 // The prices that are handed out, in half points.
+#![tactic(auto)]
+
 ghost use Rattle.std.specs.Prelude.{ℕ, ◌-◌, ◌≤◌, ◌<◌, ◌≡◌, pos, length, get_or};
 ghost use Rattle.graph.specs.Limits.{most_vertices};
 ghost use Rattle.graph.specs.Graph.{graph_of};

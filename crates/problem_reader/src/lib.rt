@@ -1,4 +1,6 @@
 // Reads a problem: a graph (sheet) and the bounds (limits) of its vertices.
+#![tactic(auto)]
+
 ghost use Rattle.std.specs.Prelude.{◌≡◌, ◌≤◌, pos, length};
 ghost use Rattle.graph.specs.Limits.{most_vertices};
 ghost use Rattle.graph.specs.Refusal.{told, reported, output};
@@ -11,7 +13,7 @@ use layout::{GraphAnswer, Numbers, NumbersAnswer};
 use report::Source;
 
 // The shape of a problem's graph; or the refusal that ends the reading, and the text that it comes from.
-#[derive(Drop)]
+#[derive(Clone, Copy)]
 pub enum ProblemAnswer {
     Read(Shape),
     Refused { source: Source, refusal: Refusal },

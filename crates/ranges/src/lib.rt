@@ -1,4 +1,6 @@
 // Tests of numbers against their ranges.
+#![tactic(auto)]
+
 ghost use Rattle.std.specs.Prelude.{◌-◌, ◌<◌, ◌≡◌, ◌&&◌, ℤ, pos};
 ghost use Rattle.integers.specs.Integer.{between};
 ghost use Rattle.graph.specs.Graph.{shape_in_range, up_to, ends_in_range, weight_in_range, bound_in_range};

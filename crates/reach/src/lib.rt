@@ -1,4 +1,6 @@
 // Looking at one edge from a settled vertex: its other end is reached, if that is nearer. Each number is chosen from two and stored either way.
+#![tactic(auto)]
+
 ghost use Rattle.std.specs.Prelude.{◌+◌, ◌*◌, ◌-◌, ◌≤◌, ◌<◌, ◌^◌, ◌≡◌};
 ghost use Rattle.graph.specs.Limits.{most_vertices};
 ghost use Rattle.method.specs.Method.{level, top_price, top_value};
@@ -12,7 +14,7 @@ use integers::{both, pick};
 use method::{FAR, LEASTS, MOST_LISTED, MOST_TABLE, MOSTS, SHUT};
 
 // The least distance of an end of a path, the goal; that end; how many vertices are reached; and the vertex settled last with its distance.
-#[derive(Drop)]
+#[derive(Clone, Copy)]
 pub struct Front {
     pub goal: u32,
     pub end: u32,

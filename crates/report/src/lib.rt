@@ -1,4 +1,6 @@
 // What programs write: the line of a refusal, and the line of a measuring.
+#![tactic(auto)]
+
 ghost use Rattle.std.specs.Prelude.{◌++◌, ◌+◌, ◌≤◌, length};
 ghost use Rattle.layout.specs.Text.{signed};
 ghost use Rattle.digits.specs.Puts.{Puts};
@@ -13,7 +15,7 @@ use writer::put_bytes;
 pub const LINE_BYTES: usize = 256;
 
 // Where a refusal comes from: a text that is read, or no reader.
-#[derive(Drop)]
+#[derive(Clone, Copy)]
 pub enum Source {
     Sheet,
     Limits,

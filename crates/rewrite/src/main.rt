@@ -1,5 +1,7 @@
 // The program `rewrite`: reads old.mtx from the working folder, and writes it with its numbers in the one way, or the line `cannot read`.
 // Its stored run is the worked example's sheet of document 01 in old spellings.
+#![tactic(auto)]
+
 mod output;
 
 use files::FILE_BYTES;

@@ -9,7 +9,7 @@ use native.Mathlib.Omega.{arith}
 use lib.Dec.{eqb}
 use lib.IntN.{ℤ, pos}
 use lib.ListN.{length, get_or}
-use borrow.Author.Tests.{le-leb, leb-true, not_true}
+use borrow.Author.Tests.{le-leb, leb-true, not-true}
 use Rattle.graph.specs.declared.Kind.{Kind}
 use Rattle.graph.specs.declared.Kind.TheVariants.{Bipartite, General}
 use Rattle.graph.specs.declared.Fault.TheVariants.{TextLength, Header, LentLength, Sizes}
@@ -54,7 +54,7 @@ unfolding header header_words
 header-comment ks [] h = zero_one (cc)
 header-comment ks (x ∷ l) h =
     let p = both (not (blank x)) (header_words ks (words (x ∷ l))) h in
-    let w = first-word x l (not_true (blank x) p.0) in
+    let w = first-word x l (not-true (blank x) p.0) in
     let q : header_words ks ((x ∷ w.0) ∷ w.1) ≡ true = ap (header_words ks) (sym w.2) ∙ p.1 in
     same_first x w.0 (bytes "%MatrixMarket") 37 (both (same (x ∷ w.0) (bytes "%%MatrixMarket")) _ q).0
 

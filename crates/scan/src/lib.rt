@@ -1,4 +1,6 @@
 // The scan of a settled column vertex: each chosen edge from it is looked at.
+#![tactic(auto)]
+
 ghost use Rattle.std.specs.Prelude.{◌+◌, ◌-◌, ◌≤◌, ◌<◌, ◌≡◌, length};
 ghost use Rattle.graph.specs.Limits.{most_edges};
 ghost use Rattle.graph.specs.Graph.{graph_of};
@@ -26,7 +28,7 @@ pub fn settled(f: Front, vertex: u32, distance: u32) -> Front
 }
 
 // The places of a list: from start to before stop.
-#[derive(Drop)]
+#[derive(Clone, Copy)]
 pub struct Span {
     pub start: u32,
     pub stop: u32,

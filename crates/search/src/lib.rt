@@ -1,4 +1,6 @@
 // One search of the solver: from a row vertex that is not served, vertices are settled by their distance until a path ends, and the path is flipped.
+#![tactic(auto)]
+
 ghost use Rattle.std.specs.Prelude.{◌+◌, ◌≤◌, ◌<◌, ◌≡◌, length};
 ghost use Rattle.graph.specs.Limits.{most_vertices};
 ghost use Rattle.graph.specs.Graph.{graph_of};

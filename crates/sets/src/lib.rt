@@ -1,6 +1,8 @@
 // The rules of odd sets (groups), their load and capacity, and which edges they cover.
 // The words `insides`, 2 a set, mark vertices, and `markings`, 16 a set, mark edges. Odd sets count by k.
 // A contract leaves out of the graph and of the odd sets, as [], what its definition does not look at.
+#![tactic(auto)]
+
 ghost use Rattle.std.specs.Prelude.{ℕ, ◌+◌, ◌*◌, ◌≤◌, ◌<◌, min, ◌≡◌, not, ◌&&◌, ◌||◌, [], eqb, ltb, pos, length, get_or, ◌≤ℤ◌};
 ghost use Rattle.integers.specs.Integer.{up};
 ghost use Rattle.integers.specs.Sum.{sum};

@@ -1,5 +1,7 @@
 // The program `solve`: reads sheet.mtx and limits.mtx from the working folder, and writes a plan of largest merit, or a refusal.
 // Its stored run is the worked example of document 01.
+#![tactic(auto)]
+
 mod output;
 
 use files::FILE_BYTES;

@@ -1,4 +1,6 @@
 // The solver: the primal-dual method between the tests of what is lent and the prices that are handed out.
+#![tactic(auto)]
+
 ghost use Rattle.std.specs.Prelude.{◌≡◌, length};
 ghost use Rattle.graph.specs.Graph.{graph_of};
 ghost use Rattle.checks.specs.Checks.{check_says};
@@ -12,7 +14,7 @@ use graph::{Shape, WORKSPACE_NUMBERS};
 use integers::both;
 
 // The lengths of what is lent for marks, vertex prices, edge prices and the workspace.
-#[derive(Drop)]
+#[derive(Clone, Copy)]
 struct Lengths {
     chosen: usize,
     vertex: usize,

@@ -1,11 +1,13 @@
 // The lines of an assignment text after its problem line, up to the first arc: the source nodes.
+#![tactic(auto)]
+
 ghost use Rattle.sources.specs.Sources.{SourceAs};
 
 use entries::Entry;
 use graph::Fault;
 
 // What a line after the problem line is: the next source node, the first arc, or refused.
-#[derive(Drop)]
+#[derive(Clone, Copy)]
 pub enum SourceLine {
     Node(u32),
     Arc,

@@ -1,4 +1,6 @@
 // Which spellings of a number the rules take: leading zeros, and signs.
+#![tactic(auto)]
+
 ghost use Rattle.std.specs.Prelude.{◌<◌, ◌≡◌};
 ghost use Rattle.layout.specs.Text.{padded, above_zero, value_after_plus, value_after_minus};
 ghost use Rattle.spelling.specs.Spelling.{natural_says, zero_refused};
@@ -6,7 +8,7 @@ ghost use Rattle.spelling.specs.Spelling.{natural_says, zero_refused};
 use layout::Rules;
 
 // What a word is as a size or an index.
-#[derive(Drop)]
+#[derive(Clone, Copy)]
 pub enum Natural {
     Is(u32),
     Bad,

@@ -7,7 +7,7 @@ use mathlib.Core.Option.{Option, none, some}
 use lib.Dec.{eqb, leb, ltb}
 use lib.IntN.{ℤ}
 use lib.ListN.{get_or, replicate}
-use borrow.Author.Tests.{not_true, not-false}
+use borrow.Author.Tests.{not-true, not-false}
 use Rattle.graph.specs.declared.Kind.{Kind}
 use Rattle.graph.specs.declared.Shape.{Shape}
 use Rattle.graph.specs.declared.Fault.TheVariants.{Header, SizeLine, Sizes, LaterLine, Ends, SameEnds, Disagreement}
@@ -50,7 +50,7 @@ module _ (g : Graph) {o : Option Kind} {r : HeaderKind} (says : kind_says r ≡ 
     header-agrees q = header-does true (not-false b q)
 
     pub header-differs : not b ≡ true → subgraph_header g o ≡ stops Disagreement
-    header-differs q = header-does false (not_true b q)
+    header-differs q = header-does false (not-true b q)
 
 -- The size line.
 module _ (g : Graph) {o : Option (ℕ × ℕ × ℕ)} {r : Triple} (says : triple_says r ≡ o) where

@@ -1,4 +1,6 @@
 // Reads the text of a subgraph (plan) of a graph.
+#![tactic(auto)]
+
 ghost use Rattle.std.specs.Prelude.{ℕ, ◌≤◌, ◌≡◌, [], length, replicate};
 ghost use Rattle.graph.specs.Refusal.{yields, told, passing, reported, output};
 ghost use Rattle.graph.specs.Graph.{graph_of};
@@ -57,7 +59,7 @@ fn same_kind(a: Kind, b: Kind) -> bool
 }
 
 // What a size line is: the number of chosen edges of a subgraph of the graph, or refused.
-#[derive(Drop)]
+#[derive(Clone, Copy)]
 enum ChosenLine {
     Count(u32),
     Refused(Fault),
@@ -89,7 +91,7 @@ fn plan_size_on(line: &[u8], s: Shape) -> ChosenLine
 }
 
 // What a later line, from `start` to `end`, is: a chosen edge that has no mark yet, or refused.
-#[derive(Drop)]
+#[derive(Clone, Copy)]
 enum Choice {
     Is(usize),
     Refused(Fault),

@@ -1,4 +1,6 @@
 // Writes a subgraph (plan) as a text, after the tests on all that is lent.
+#![tactic(auto)]
+
 ghost use Rattle.std.specs.Prelude.{◌≡◌, List, ℤ, length};
 ghost use Rattle.graph.specs.Limits.{subgraph_bytes};
 ghost use Rattle.graph.specs.Passed.{Sound, MarksHold};

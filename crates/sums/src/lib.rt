@@ -1,6 +1,8 @@
 // The sums of the measuring call: the subgraph's weight, the parts of the prices' total, the cover of every edge, and the four slacks.
 // Weights, bounds and prices are 32 bits wide, and their sums 64: a term is within 2 ^ 48, and a sum of at most 1,024 terms within 2 ^ 58.
 // The words `insides`, 2 a set, mark vertices, and `markings`, 16 a set, mark edges. Odd sets count by k.
+#![tactic(auto)]
+
 ghost use Rattle.std.specs.Prelude.{ℕ, ◌-◌, ◌*◌, ◌/◌, ◌+◌, ◌^◌, ◌≤◌, ◌<◌, ◌≡◌, [], pos, ◌+ℤ◌, ◌-ℤ◌, ◌*ℤ◌, length, get_or, ◌≤ℤ◌};
 ghost use Rattle.std.specs.Int.Signed.{le_z};
 ghost use Rattle.integers.specs.Integer.{Within};

@@ -1,4 +1,6 @@
 // What the exported calls are passed as bools, and what they tell of an answer.
+#![tactic(auto)]
+
 ghost use Rattle.std.specs.Prelude.{◌≡◌, length};
 ghost use Rattle.graph.specs.Refusal.{number_of};
 ghost use Rattle.telling.specs.Telling.{kind_of, kind_number, numbers_of, number_in, shape_told, shape_outcome, length_told, text_outcome};

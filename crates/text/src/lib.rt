@@ -1,4 +1,6 @@
 // Texts by lines and words, and the numbers of a line: a cursor by value, and a word as a part of the caller's line.
+#![tactic(auto)]
+
 ghost use Rattle.std.specs.Prelude.{◌≡◌, ◌+◌, ◌-◌, ◌≤◌, length, take, drop};
 ghost use Rattle.layout.specs.Text.{blank, words, natural, integer, one_word, two_words, three_words, no_words, blank_line, starts_with, comment_line};
 ghost use Rattle.spelling.specs.Spelling.{natural_says};
@@ -10,14 +12,14 @@ use numerals::Integer;
 use spelling::Natural;
 
 // A place in a text or in a line: its byte, and how many lines of the text were passed.
-#[derive(Drop)]
+#[derive(Clone, Copy)]
 pub struct Cursor {
     pub at: usize,
     pub line: usize,
 }
 
 // The line at a cursor, from its start to its end, and the cursor after it.
-#[derive(Drop)]
+#[derive(Clone, Copy)]
 pub enum Line {
     Part {
         start: usize,
@@ -151,13 +153,13 @@ pub fn is_comment(line: &[u8]) -> bool
 }
 
 // The next number of a line, and the cursor after it. Where no word is left there is none.
-#[derive(Drop)]
+#[derive(Clone, Copy)]
 pub enum NextNatural {
     Is { value: u32, next: Cursor },
     Bad,
 }
 
-#[derive(Drop)]
+#[derive(Clone, Copy)]
 pub enum NextInteger {
     Is { value: i32, next: Cursor },
     Bad,
@@ -252,7 +254,7 @@ pub fn one_natural(line: &[u8], rules: Rules) -> Natural
     c.last_natural(line, rules)
 }
 
-#[derive(Drop)]
+#[derive(Clone, Copy)]
 pub enum Pair {
     Is(u32, u32),
     Bad,
@@ -287,7 +289,7 @@ pub fn two_naturals(line: &[u8], rules: Rules) -> Pair
     two_naturals_in(line, 0, line.len(), rules)
 }
 
-#[derive(Drop)]
+#[derive(Clone, Copy)]
 pub enum Triple {
     Is(u32, u32, u32),
     Bad,
@@ -318,7 +320,7 @@ pub fn three_naturals(line: &[u8], rules: Rules) -> Triple
     Triple::Is(a, b, c)
 }
 
-#[derive(Drop)]
+#[derive(Clone, Copy)]
 pub enum EdgeLine {
     Is { row: u32, column: u32, weight: i32 },
     Bad,

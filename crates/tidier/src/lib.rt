@@ -1,4 +1,6 @@
 // Writes a graph in tidy order as a text (the tidy sheet), after the tests on all that is lent.
+#![tactic(auto)]
+
 ghost use Rattle.std.specs.Prelude.{◌≡◌, length};
 ghost use Rattle.graph.specs.Limits.{longest_text};
 ghost use Rattle.graph.specs.Refusal.{told, reported, output};

@@ -1,5 +1,7 @@
 // The program `tidy`: reads sheet.mtx from the working folder, and writes it in its tidy form, or a refusal.
 // Its stored run is the worked example's sheet of document 01 in another order, with comments and blanks.
+#![tactic(auto)]
+
 mod output;
 
 use files::FILE_BYTES;

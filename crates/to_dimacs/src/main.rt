@@ -1,5 +1,7 @@
 // The program `to_dimacs`: reads sheet.mtx and limits.mtx from the working folder, and writes the sheet as a DIMACS assignment text, or a refusal.
 // Its stored run is a sheet of two rows and three columns, with weights above, below and at 0.
+#![tactic(auto)]
+
 mod output;
 
 use files::FILE_BYTES;

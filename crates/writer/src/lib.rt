@@ -1,4 +1,6 @@
 // Writes bytes, the head of a text of coordinates, and a subgraph (plan) as a Matrix Market text.
+#![tactic(auto)]
+
 ghost use Rattle.std.specs.Prelude.{◌≡◌, List, [], ◌∷◌, ◌+◌, ◌≤◌, ℤ, length, replicate};
 ghost use Rattle.integers.specs.Sum.{sum};
 ghost use Rattle.graph.specs.Limits.{most_edges, subgraph_bytes};

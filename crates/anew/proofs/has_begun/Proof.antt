@@ -5,14 +5,19 @@ use Rattle.anew.proofs.Begun.{at_blank, at_line}
 use Rattle.anew.proofs.has_begun.Statement.{statement}
 use Rattle.anew.proofs.has_begun.Tie as tie
 
-returns-2 : tie.Need-returns-2
-returns-2 c = at_blank c.before.before.if1.false c.before.before.before.before.args.line.now (sym c.before.is-blank-line.ensures ∙ c.if2.true)
+returns-2 : tie.Need-returns-then-is_blank_line
+returns-2 c = at_blank c.if-before.false c.args.line.now (sym c.is_blank_line.ensures ∙ c.if-is_blank_line.true)
 
-returns-3 : tie.Need-returns-3
+returns-3 : tie.Need-returns
 returns-3 c =
     let at-if1 = c.before.before.before in
     let start = at-if1.before.before in
-    at_line at-if1.if1.false start.args.line.now (sym c.before.before.is-blank-line.ensures ∙ c.before.if2.false) c.is-comment.ensures
+    at_line at-if1.if-before.false start.args.line.now (sym c.is_blank_line.ensures ∙ c.if-is_blank_line.false) c.is_comment.ensures
 
-pub has-begun-spec : {M : Type 1} → statement M
-has-begun-spec = tie.close (tie.spec (λ c. search rules) (λ c κs. search rules) returns-2 (λ c κs. search rules) returns-3)
+pub has_begun_spec : {M : Type 1} → statement M
+has_begun_spec = tie.close (tie.spec
+    (λ c. search rules)
+    (λ c κs. search rules)
+    returns-2
+    (λ c κs. search rules)
+    returns-3)

@@ -7,90 +7,90 @@ use Rattle.anew.proofs.Loops.{TextTurn, text_starts, text_ends, line-room, end_r
 use Rattle.anew.proofs.put_text.Statement.{statement}
 use Rattle.anew.proofs.put_text.Tie as tie
 
-abbrev invariant-loop : tie.invariant-loop
+abbrev invariant-loop : tie.invariant-loop-start
 invariant-loop out₀ s c₀ to₀ begun₀ out c to begun = TextTurn out₀ s out to begun c
 
-abbrev decreases-loop : tie.decreases-loop
+abbrev decreases-loop : tie.decreases-loop-start
 decreases-loop out₀ s c₀ to₀ begun₀ out c to begun = length s + 1 - c.at
 
-loop-holds : tie.Need-loop-init invariant-loop decreases-loop
+loop-holds : tie.Need-loop-start-init invariant-loop decreases-loop
 loop-holds c = text_starts _ _
 
-next-line-requires : tie.Need-next-line-requires invariant-loop decreases-loop
-next-line-requires c κs = c.loop.invariant.behind
+next-line-requires : tie.Need-next_line-requires invariant-loop decreases-loop
+next-line-requires c κs = c.loop-start.invariant.behind
 
-same_length : tie.Need-same-length invariant-loop decreases-loop
-same_length c = c.before.before.before.loop.invariant.turn.long
+same_length : tie.Need-shape_of-out-in-Done invariant-loop decreases-loop
+same_length c = c.loop-start.invariant.turn.long
 
-returns : tie.Need-returns invariant-loop decreases-loop
+returns : tie.Need-returns-in-Done invariant-loop decreases-loop
 returns c =
-    let at-loop = c.before.before.before in
+    let at-loop = c.before.before in
     let start = at-loop.before.before.before in
-    text_ends at-loop.loop.invariant (done start.args.s.now at-loop.loop.c _ c.before.before.next-line.ensures c.enum_told.given.1)
+    text_ends at-loop.loop-start.invariant (done start.args.s.now at-loop.loop-start.c _ c.next_line.ensures c.in-Done.is)
 
-sub-line : tie.Need-overflow-sub-line invariant-loop decreases-loop
+sub-line : tie.Need-slice_bounds-line-count invariant-loop decreases-loop
 sub-line c =
-    let at-next-line = c.before.before.before in
+    let at-next-line = c.before in
     let at-loop = at-next-line.before in
     let start = at-loop.before.before.before in
-    (lined start.args.s.now at-loop.loop.c _ at-next-line.next-line.ensures _ _ _ c.before.start.given.1).forward
+    (lined start.args.s.now at-loop.loop-start.c _ at-next-line.next_line.ensures _ _ _ c.in-Part.is).forward
 
-part-line-start : tie.Need-slice-bounds-line-start invariant-loop decreases-loop
+part-line-start : tie.Need-slice_bounds-line-start invariant-loop decreases-loop
 part-line-start c =
-    let at-next-line = c.before.before.before in
+    let at-next-line = c.before in
     let at-loop = at-next-line.before in
     let start = at-loop.before.before.before in
-    (lined start.args.s.now at-loop.loop.c _ at-next-line.next-line.ensures _ _ _ c.before.start.given.1).forward
+    (lined start.args.s.now at-loop.loop-start.c _ at-next-line.next_line.ensures _ _ _ c.in-Part.is).forward
 
-part-line-end : tie.Need-slice-bounds-line-end invariant-loop decreases-loop
+part-line-end : tie.Need-slice_bounds-line-end invariant-loop decreases-loop
 part-line-end c =
-    let at-next-line = c.before.before.before in
+    let at-next-line = c.before in
     let at-loop = at-next-line.before in
     let start = at-loop.before.before.before in
-    (lined start.args.s.now at-loop.loop.c _ at-next-line.next-line.ensures _ _ _ c.before.start.given.1).inside
+    (lined start.args.s.now at-loop.loop-start.c _ at-next-line.next_line.ensures _ _ _ c.in-Part.is).inside
 
-put-line-from-requires : tie.Need-put-line-from-requires invariant-loop decreases-loop
+put-line-from-requires : tie.Need-put_line_from-to-requires invariant-loop decreases-loop
 put-line-from-requires c κs =
-    let at-start = c.before.before.before.before in
-    let at-next-line = at-start.before.before in
+    let at-start = c.before.before.before in
+    let at-next-line = at-start.before in
     let at-loop = at-next-line.before in
     let start = at-loop.before.before.before in
-    let g = lined start.args.s.now at-loop.loop.c _ at-next-line.next-line.ensures _ _ _ at-start.start.given.1 in
-    line-room at-loop.loop.invariant start.requires g
+    let g = lined start.args.s.now at-loop.loop-start.c _ at-next-line.next_line.ensures _ _ _ at-start.in-Part.is in
+    line-room at-loop.loop-start.invariant start.requires g
 
-put-byte-requires : tie.Need-put-byte-requires invariant-loop decreases-loop
+put-byte-requires : tie.Need-put_byte-to-requires invariant-loop decreases-loop
 put-byte-requires c κs =
     let at-put-line-from = c.before.before.before in
     let at-has-begun = at-put-line-from.before.before in
-    let at-start = at-has-begun.before.before.before in
-    let at-next-line = at-start.before.before in
+    let at-start = at-has-begun.before.before in
+    let at-next-line = at-start.before in
     let at-loop = at-next-line.before in
     let start = at-loop.before.before.before in
-    let g = lined start.args.s.now at-loop.loop.c _ at-next-line.next-line.ensures _ _ _ at-start.start.given.1 in
-    end_room at-loop.loop.invariant start.requires g at-has-begun.has-begun.ensures at-put-line-from.put-line-from.ensures
+    let g = lined start.args.s.now at-loop.loop-start.c _ at-next-line.next_line.ensures _ _ _ at-start.in-Part.is in
+    end_room at-loop.loop-start.invariant start.requires g at-has-begun.has_begun-begun.ensures at-put-line-from.put_line_from-to.ensures
 
-loop-less : tie.Need-loop-smaller invariant-loop decreases-loop
+loop-less : tie.Need-loop-start-smaller invariant-loop decreases-loop
 loop-less c =
-    let at-start = c.before.before.before.before.before.before.before.before.before.before.before in
-    let at-next-line = at-start.before.before in
+    let at-start = c.before.before.before.before.before.before.before.before.before.before in
+    let at-next-line = at-start.before in
     let at-loop = at-next-line.before in
     let start = at-loop.before.before.before in
-    let g = lined start.args.s.now at-loop.loop.c _ at-next-line.next-line.ensures _ _ _ at-start.start.given.1 in
-    text_falls at-loop.loop.invariant start.requires g
+    let g = lined start.args.s.now at-loop.loop-start.c _ at-next-line.next_line.ensures _ _ _ at-start.in-Part.is in
+    text_falls at-loop.loop-start.invariant start.requires g
 
-loop-again : tie.Need-loop-preserved invariant-loop decreases-loop
+loop-again : tie.Need-loop-start-preserved invariant-loop decreases-loop
 loop-again c =
     let at-put-line-from = c.before.before.before.before.before.before in
     let at-has-begun = at-put-line-from.before.before in
-    let at-start = at-has-begun.before.before.before in
-    let at-next-line = at-start.before.before in
+    let at-start = at-has-begun.before.before in
+    let at-next-line = at-start.before in
     let at-loop = at-next-line.before in
     let start = at-loop.before.before.before in
-    let g = lined start.args.s.now at-loop.loop.c _ at-next-line.next-line.ensures _ _ _ at-start.start.given.1 in
-    text_more at-loop.loop.invariant start.requires g at-has-begun.has-begun.ensures at-put-line-from.put-line-from.ensures c.before.before.put_byte.ensures
+    let g = lined start.args.s.now at-loop.loop-start.c _ at-next-line.next_line.ensures _ _ _ at-start.in-Part.is in
+    text_more at-loop.loop-start.invariant start.requires g at-has-begun.has_begun-begun.ensures at-put-line-from.put_line_from-to.ensures c.put_byte-to.ensures
 
-pub put-text-spec : {M : Type 1} → statement M
-put-text-spec =
+pub put_text_spec : {M : Type 1} → statement M
+put_text_spec =
     tie.close
     (tie.spec
     invariant-loop

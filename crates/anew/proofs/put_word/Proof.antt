@@ -8,50 +8,50 @@ use Rattle.anew.proofs.Put.{put_first, word_other, number_fits, number_wide, num
 use Rattle.anew.proofs.put_word.Statement.{statement}
 use Rattle.anew.proofs.put_word.Tie as tie
 
-returns : tie.Need-returns
+returns : tie.Need-returns-in_default
 returns c =
     let at-enum-told = c.before.before.before.before in
-    let at-read-integer = at-enum-told.before.before in
+    let at-read-integer = at-enum-told.before in
     let start = at-read-integer.before.before.before in
-    puts_same c.before.before.put-bytes.ensures (word_other start.args.w.now at-read-integer.read-integer.ensures at-enum-told.enum_told.given.1)
+    puts_same c.put_bytes.ensures (word_other start.args.w.now at-read-integer.read_integer.ensures at-enum-told.in_default.is)
 
-cast-put-signed : tie.Need-overflow-cast-put-signed
+cast-put-signed : tie.Need-overflow_cast-z
 cast-put-signed c =
-    let at-read-integer = c.before.before.before.before in
+    let at-read-integer = c.before.before in
     let start = at-read-integer.before.before.before in
-    number_fits start.args.w.now at-read-integer.read-integer.ensures c.before.before.z.given.1
+    number_fits start.args.w.now at-read-integer.read_integer.ensures c.in-Is.is
 
-slice-aggregate-put-bytes : tie.Need-slice-aggregate-put-bytes
+slice-aggregate-put-bytes : tie.Need-slice_bounds-put_bytes-end
 slice-aggregate-put-bytes c =
-    let p = c.before.before.before.put-signed.ensures.0 in
+    let p = c.put_signed-k.ensures.0 in
     omega (arith, ap length (put_first p), p.place)
 
-put-bytes-requires-2 : tie.Need-put-bytes-requires-2
+put-bytes-requires-2 : tie.Need-put_bytes-requires-2
 put-bytes-requires-2 c κs =
     let at-put-signed = c.before.before.before in
-    let at-z = at-put-signed.before.before.before in
-    let at-read-integer = at-z.before.before in
+    let at-z = at-put-signed.before.before in
+    let at-read-integer = at-z.before in
     let at_before = at-read-integer.before.before in
     let s = at_before.before in
-    let says = at-read-integer.read-integer.ensures in
-    let is = at-z.z.given.1 in
-    let p = number_word s.args.w.now says is (number_wide s.args.w.now says is) at-put-signed.put-signed.ensures.0 in
+    let says = at-read-integer.read_integer.ensures in
+    let is = at-z.in-Is.is in
+    let p = number_word s.args.w.now says is (number_wide s.args.w.now says is) at-put-signed.put_signed-k.ensures.0 in
     omega (arith, p.1, s.requires)
 
-returns-2 : tie.Need-returns-2
+returns-2 : tie.Need-returns
 returns-2 c =
     let at-put-signed = c.before.before.before.before.before.before in
-    let at-z = at-put-signed.before.before.before in
-    let at-read-integer = at-z.before.before in
+    let at-z = at-put-signed.before.before in
+    let at-read-integer = at-z.before in
     let at_before = at-read-integer.before.before in
     let s = at_before.before in
-    let says = at-read-integer.read-integer.ensures in
-    let is = at-z.z.given.1 in
-    let p = number_word s.args.w.now says is (number_wide s.args.w.now says is) at-put-signed.put-signed.ensures.0 in
-    puts_same c.before.before.put-bytes2.ensures p.0
+    let says = at-read-integer.read_integer.ensures in
+    let is = at-z.in-Is.is in
+    let p = number_word s.args.w.now says is (number_wide s.args.w.now says is) at-put-signed.put_signed-k.ensures.0 in
+    puts_same c.put_bytes-2.ensures p.0
 
-pub put-word-spec : {M : Type 1} → statement M
-put-word-spec =
+pub put_word_spec : {M : Type 1} → statement M
+put_word_spec =
     tie.close
     (tie.spec
     (λ c κs. search rules)

@@ -5,10 +5,17 @@ use borrow.Author.Rules.{rules}
 use Rattle.arcs.proofs.edge_at.Statement.{statement}
 use Rattle.arcs.proofs.edge_at.Tie as tie
 
-cast-result : tie.Need-overflow-cast-result
-cast-result c = omega (arith, c.shared-slice-known.given (c.before.args.n + 1 + c.before.args.k))
+cast-result : tie.Need-overflow_cast-result
+cast-result c = omega (arith, c.shared_slice_known-1.given (c.args.n + 1 + c.args.k))
 
-pub edge-at-spec : {M : Type 1} → statement M
-edge-at-spec =
+pub edge_at_spec : {M : Type 1} → statement M
+edge_at_spec =
     tie.close
-    (tie.spec (λ c. search rules) (λ c. search rules) (λ c. search rules) (λ c. search rules) (λ c. search rules) cast-result (λ c. search rules))
+    (tie.spec
+    (λ c. search rules)
+    (λ c. search rules)
+    (λ c. search rules)
+    (λ c. search rules)
+    (λ c. search rules)
+    cast-result
+    (λ c. search rules))

@@ -12,7 +12,7 @@ use Rattle.arcs.proofs.Rows.{kept_none, row_placed, bounds_same, bounds_again, r
 use Rattle.arcs.proofs.keep_rows.Statement.{statement}
 use Rattle.arcs.proofs.keep_rows.Tie as tie
 
-abbrev invariant-loop : tie.invariant-loop
+abbrev invariant-loop : tie.invariant-loop-r
 invariant-loop s row column weight index table₀ arc₀ r₀ table arc r =
     (r ≤ s.rows)
     × Kept (graph_of s row column weight) (keeps (graph_of s row column weight) (leasts table₀)) (starts table) (stops table) (edges arc) (heads arc) (values arc) r
@@ -20,87 +20,87 @@ invariant-loop s row column weight index table₀ arc₀ r₀ table arc r =
     × (length table ≡ most_table)
     × (length arc ≡ most_arcs)
 
-abbrev decreases-loop : tie.decreases-loop
+abbrev decreases-loop : tie.decreases-loop-r
 decreases-loop s row column weight index table₀ arc₀ r₀ table arc r = s.rows - r
 
-loop-holds : tie.Need-loop-init invariant-loop decreases-loop
+loop-holds : tie.Need-loop-r-init invariant-loop decreases-loop
 loop-holds c =
-    let pre = c.before.before.before.requires in
+    let pre = c.requires in
     (omega arith, kept_none, bounds_same, pre.1.1.0, pre.1.1.1)
 
-cast-if1 : tie.Need-overflow-cast-if1 invariant-loop decreases-loop
-cast-if1 c = omega (arith, c.before.before.before.before.before.requires.0.passed.sound.sizes.rows.greatest)
+cast-if1 : tie.Need-overflow_cast-s invariant-loop decreases-loop
+cast-if1 c = omega (arith, c.requires.0.passed.sound.sizes.rows.greatest)
 
-keep-row-requires : tie.Need-keep-row-requires invariant-loop decreases-loop
+keep-row-requires : tie.Need-keep_row-last-requires invariant-loop decreases-loop
 keep-row-requires c κs =
-    let pre = c.before.before.before.before.before.before.before.before.requires in
+    let pre = c.requires in
     let net = pre.0 in
-    let test = c.before.before.if1.true in (
-      (root_in net test, few net, start-in net pre.1.0 (omega arith), c.before.before.before.before.loop.invariant.4),
+    let test = c.loop-r-test.true in (
+      (root_in net test, few net, start-in net pre.1.0 (omega arith), c.loop-r.invariant.4),
       (rises net pre.1.0 test, λ i a b. readable net pre.1.0 test a b),
     )
 
-mul-table : tie.Need-overflow-mul-table invariant-loop decreases-loop
+mul-table : tie.Need-offset_bounds-index-r invariant-loop decreases-loop
 mul-table c =
     let at-if1 = c.before.before.before in
-    let start = at-if1.before.before.before.before.before.before in
+    let start = at-if1 in
     omega (arith, at-if1.if1.true, start.requires.0.passed.sound.sizes.rows.greatest)
 
-shared-slice-read-table : tie.Need-shared-slice-read-table invariant-loop decreases-loop
+shared-slice-read-table : tie.Need-bounds-index-r invariant-loop decreases-loop
 shared-slice-read-table c =
-    let pre = c.before.before.before.before.before.before.before.before.before.before.requires in
-    start-in pre.0 pre.1.0 (omega (arith, root_in pre.0 c.before.before.before.before.if1.true))
+    let pre = c.requires in
+    start-in pre.0 pre.1.0 (omega (arith, root_in pre.0 c.loop-r-test.true))
 
-mul-table-2 : tie.Need-overflow-mul-table-2 invariant-loop decreases-loop
+mul-table-2 : tie.Need-offset_bounds-table-r invariant-loop decreases-loop
 mul-table-2 c =
     let at-if1 = c.before.before.before.before in
-    let start = at-if1.before.before.before.before.before.before in
+    let start = at-if1 in
     omega (arith, at-if1.if1.true, start.requires.0.passed.sound.sizes.rows.greatest)
 
-element-write-table : tie.Need-element-write-table invariant-loop decreases-loop
+element-write-table : tie.Need-bounds-table-r invariant-loop decreases-loop
 element-write-table c =
     let at-if1 = c.before.before.before.before in
     let start = at-if1.before.before.before.before.before.before in
-    omega (arith, at-if1.if1.true, start.requires.0.passed.sound.sizes.rows.greatest)
+    omega (arith, at-if1.loop-r-test.true, start.requires.0.passed.sound.sizes.rows.greatest)
 
-add-table : tie.Need-overflow-add-table invariant-loop decreases-loop
+add-table : tie.Need-overflow_add-table invariant-loop decreases-loop
 add-table c =
     let at-if1 = c.before.before.before.before in
     let start = at-if1.before.before.before.before.before.before in
-    omega (arith, at-if1.if1.true, start.requires.0.passed.sound.sizes.rows.greatest)
+    omega (arith, at-if1.loop-r-test.true, start.requires.0.passed.sound.sizes.rows.greatest)
 
-mul-table-3 : tie.Need-overflow-mul-table-3 invariant-loop decreases-loop
+mul-table-3 : tie.Need-offset_bounds-table-r-in-loop-r invariant-loop decreases-loop
 mul-table-3 c =
     let at-if1 = c.before.before.before.before in
     let start = at-if1.before.before.before.before.before.before in
-    omega (arith, at-if1.if1.true, start.requires.0.passed.sound.sizes.rows.greatest)
+    omega (arith, at-if1.loop-r-test.true, start.requires.0.passed.sound.sizes.rows.greatest)
 
-element-write-table-2 : tie.Need-element-write-table-2 invariant-loop decreases-loop
+element-write-table-2 : tie.Need-bounds-table-r-in-loop-r invariant-loop decreases-loop
 element-write-table-2 c =
     let at-if1 = c.before.before.before.before in
     let start = at-if1.before.before.before.before.before.before in
-    omega (arith, at-if1.if1.true, start.requires.0.passed.sound.sizes.rows.greatest)
+    omega (arith, at-if1.loop-r-test.true, start.requires.0.passed.sound.sizes.rows.greatest)
 
-add_r : tie.Need-overflow-add-r invariant-loop decreases-loop
+add_r : tie.Need-overflow_add-r invariant-loop decreases-loop
 add_r c =
     let at-if1 = c.before.before.before.before in
     let start = at-if1.before.before.before.before.before.before in
-    omega (arith, at-if1.if1.true, start.requires.0.passed.sound.sizes.rows.greatest)
+    omega (arith, at-if1.loop-r-test.true, start.requires.0.passed.sound.sizes.rows.greatest)
 
-loop-less : tie.Need-loop-smaller invariant-loop decreases-loop
-loop-less c = omega (arith, c.before.before.before.before.if1.true)
+loop-less : tie.Need-loop-r-smaller invariant-loop decreases-loop
+loop-less c = omega (arith, c.loop-r-test.true)
 
-loop-again : tie.Need-loop-preserved invariant-loop decreases-loop
+loop-again : tie.Need-loop-r-preserved invariant-loop decreases-loop
 loop-again c =
     let start = c.before.before.before.before.before.before.before.before.before.before in
     let net = start.requires.0 in
     let is = start.requires.1.0 in
-    let test = c.before.before.before.before.if1.true in
-    let loop = c.before.before.before.before.before.before.loop in
+    let test = c.loop-r-test.true in
+    let loop = c.loop-r in
     let inv = loop.invariant in
-    let row = c.before.keep_row.ensures in
+    let row = c.keep_row-last.ensures in
     let from = get_or start.args.index.now loop.r 0 in
-    let p = row_placed loop.table loop.r from c.before.keep_row.result inv.3 (omega (arith, root_in net test, few net)) in (
+    let p = row_placed loop.table loop.r from c.keep_row-last.result inv.3 (omega (arith, root_in net test, few net)) in (
       omega (arith, test),
       kept_more net is test (keeps_here net is test inv.2) inv.1 row.0 row.1.0 p,
       bounds_again inv.2 p.bounds,
@@ -110,11 +110,11 @@ loop-again c =
 
 returns : tie.Need-returns invariant-loop decreases-loop
 returns c =
-    let inv = c.before.before.loop.invariant in
-    (kept_end inv.1 c.if1.false, (inv.2, inv.3))
+    let inv = c.loop-r.invariant in
+    (kept_end inv.1 c.loop-r-test.false, (inv.2, inv.3))
 
-pub keep-rows-spec : {M : Type 1} → statement M
-keep-rows-spec =
+pub keep_rows_spec : {M : Type 1} → statement M
+keep_rows_spec =
     tie.close
     (tie.spec
     invariant-loop

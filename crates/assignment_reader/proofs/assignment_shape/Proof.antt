@@ -6,7 +6,9 @@ use Rattle.assignment_reader.proofs.assignment_shape.Statement.{statement}
 use Rattle.assignment_reader.proofs.assignment_shape.Tie as tie
 
 returns : tie.Need-returns
-returns c = ap (λ k. record { kind = Bipartite; rows = c.before.args.rows; columns = k; edges = c.before.args.problem.arcs }) c.beyond.ensures
+returns c = ap (λ k. record { kind = Bipartite; rows = c.args.rows; columns = k; edges = c.args.problem.arcs }) c.beyond.ensures
 
-pub assignment-shape-spec : {M : Type 1} → statement M
-assignment-shape-spec = tie.close (tie.spec (λ c κs. search rules) returns)
+pub assignment_shape_spec : {M : Type 1} → statement M
+assignment_shape_spec = tie.close (tie.spec
+    (λ c κs. search rules)
+    returns)

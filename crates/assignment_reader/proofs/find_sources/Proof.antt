@@ -8,82 +8,82 @@ use Rattle.assignment_reader.proofs.Sources.{SourceTurn, turn_starts, turn_ended
 use Rattle.assignment_reader.proofs.find_sources.Statement.{statement}
 use Rattle.assignment_reader.proofs.find_sources.Tie as tie
 
-abbrev invariant-loop : tie.invariant-loop
+abbrev invariant-loop : tie.invariant-loop-place
 invariant-loop text arcs c₀ rows₀ c rows = SourceTurn text arcs c₀ c rows
 
-abbrev decreases-loop : tie.decreases-loop
+abbrev decreases-loop : tie.decreases-loop-place
 decreases-loop text arcs c₀ rows₀ c rows = length text + 1 - c.at
 
-loop-holds : tie.Need-loop-init invariant-loop decreases-loop
-loop-holds c = turn_starts c.before.args.text.now c.before.args.arcs c.before.requires
+loop-holds : tie.Need-loop-place-init invariant-loop decreases-loop
+loop-holds c = turn_starts c.args.text.now c.args.arcs c.requires
 
-entry-line-requires : tie.Need-entry-line-requires invariant-loop decreases-loop
-entry-line-requires c κs = c.loop.invariant.reached
+entry-line-requires : tie.Need-entry_line-requires invariant-loop decreases-loop
+entry-line-requires c κs = c.loop-place.invariant.reached
 
-returns : tie.Need-returns invariant-loop decreases-loop
+returns : tie.Need-returns-in-Ended invariant-loop decreases-loop
 returns c =
-    let at-entry-line = c.before.before.before in
-    let loop = at-entry-line.before.loop in
-    turn_ended loop.invariant at-entry-line.entry-line.ensures c.before.place.given.1
+    let at-entry-line = c.before in
+    let loop = at-entry-line.loop-place in
+    turn_ended loop.invariant at-entry-line.entry_line.ensures c.in-Ended.is
 
-returns-2 : tie.Need-returns-2 invariant-loop decreases-loop
+returns-2 : tie.Need-returns-in-Long invariant-loop decreases-loop
 returns-2 c =
-    let at-place2 = c.before.before in
-    let at-entry-line = at-place2.before.before in
-    let loop = at-entry-line.before.loop in
-    turn_long loop.invariant at-entry-line.entry-line.ensures at-place2.place2.given.1 c.wrong-line.ensures
+    let at-place2 = c.before in
+    let at-entry-line = at-place2.before in
+    let loop = at-entry-line.loop-place in
+    turn_long loop.invariant at-entry-line.entry_line.ensures at-place2.in-Long.is c.wrong_line.ensures
 
-sub-next-source : tie.Need-overflow-sub-next-source invariant-loop decreases-loop
+sub-next-source : tie.Need-slice_bounds-next_source-count invariant-loop decreases-loop
 sub-next-source c =
-    let entry-line = c.before.before.before.entry-line in
-    (found-line entry-line.ensures c.before.start.given.1).forward
+    let entry-line = c.entry_line in
+    (found-line entry-line.ensures c.in-At.is).forward
 
-part-next-source-start : tie.Need-slice-bounds-next-source-start invariant-loop decreases-loop
+part-next-source-start : tie.Need-slice_bounds-next_source-start invariant-loop decreases-loop
 part-next-source-start c =
-    let entry-line = c.before.before.before.entry-line in
-    (found-line entry-line.ensures c.before.start.given.1).forward
+    let entry-line = c.entry_line in
+    (found-line entry-line.ensures c.in-At.is).forward
 
-part-next-source-end : tie.Need-slice-bounds-next-source-end invariant-loop decreases-loop
+part-next-source-end : tie.Need-slice_bounds-next_source-end invariant-loop decreases-loop
 part-next-source-end c =
-    let entry-line = c.before.before.before.entry-line in
-    (found-line entry-line.ensures c.before.start.given.1).ends
+    let entry-line = c.entry_line in
+    (found-line entry-line.ensures c.in-At.is).ends
 
-loop-less : tie.Need-loop-smaller invariant-loop decreases-loop
+loop-less : tie.Need-loop-place-smaller invariant-loop decreases-loop
 loop-less c =
-    let at-start = c.before.before.before.before.before.before in
-    let entry-line = at-start.before.before.entry-line in
-    omega (arith, (found-line entry-line.ensures at-start.start.given.1).onward, (found-line entry-line.ensures at-start.start.given.1).reached.reach)
+    let at-start = c.before.before.before in
+    let entry-line = at-start.entry_line in
+    omega (arith, (found-line entry-line.ensures at-start.in-At.is).onward, (found-line entry-line.ensures at-start.in-At.is).reached.reach)
 
-loop-again : tie.Need-loop-preserved invariant-loop decreases-loop
+loop-again : tie.Need-loop-place-preserved invariant-loop decreases-loop
 loop-again c =
-    let at-next-source = c.before.before.before in
-    let at-start = at-next-source.before.before.before in
-    let at-entry-line = at-start.before.before in
-    let loop = at-entry-line.before.loop in
-    turn_node loop.invariant at-entry-line.entry-line.ensures at-start.start.given.1 at-next-source.next-source.result
-    at-next-source.next-source.ensures c.before.node.given.1
+    let at-next-source = c.before in
+    let at-start = at-next-source.before.before in
+    let at-entry-line = at-start.before in
+    let loop = at-entry-line.loop-place in
+    turn_node loop.invariant at-entry-line.entry_line.ensures at-start.in-At.is at-next-source.next_source.result
+    at-next-source.next_source.ensures c.in-Node.is
 
-returns-3 : tie.Need-returns-3 invariant-loop decreases-loop
+returns-3 : tie.Need-returns-in-Arc invariant-loop decreases-loop
 returns-3 c =
-    let at-next-source = c.before.before in
-    let at-start = at-next-source.before.before.before in
-    let at-entry-line = at-start.before.before in
-    let loop = at-entry-line.before.loop in
-    turn_arc loop.invariant at-entry-line.entry-line.ensures at-start.start.given.1 at-next-source.next-source.result
-    at-next-source.next-source.ensures c.enum_told.given.1
+    let at-next-source = c.before in
+    let at-start = at-next-source.before.before in
+    let at-entry-line = at-start.before in
+    let loop = at-entry-line.loop-place in
+    turn_arc loop.invariant at-entry-line.entry_line.ensures at-start.in-At.is at-next-source.next_source.result
+    at-next-source.next_source.ensures c.in-Arc.is
 
-returns-4 : tie.Need-returns-4 invariant-loop decreases-loop
+returns-4 : tie.Need-returns-in-Refused invariant-loop decreases-loop
 returns-4 c =
-    let at-fault = c.before.before in
-    let at-next-source = at-fault.before.before in
-    let at-start = at-next-source.before.before.before in
-    let at-entry-line = at-start.before.before in
-    let loop = at-entry-line.before.loop in
-    turn_refused loop.invariant at-entry-line.entry-line.ensures at-start.start.given.1 at-next-source.next-source.result
-    at-next-source.next-source.ensures at-fault.fault.given.1 c.refused-at.ensures
+    let at-fault = c.before in
+    let at-next-source = at-fault.before in
+    let at-start = at-next-source.before.before in
+    let at-entry-line = at-start.before in
+    let loop = at-entry-line.loop-place in
+    turn_refused loop.invariant at-entry-line.entry_line.ensures at-start.in-At.is at-next-source.next_source.result
+    at-next-source.next_source.ensures at-fault.in-Refused.is c.refused_at.ensures
 
-pub find-sources-spec : {M : Type 1} → statement M
-find-sources-spec =
+pub find_sources_spec : {M : Type 1} → statement M
+find_sources_spec =
     tie.close
     (tie.spec
     invariant-loop

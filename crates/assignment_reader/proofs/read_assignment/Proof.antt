@@ -10,104 +10,104 @@ use Rattle.assignment_reader.proofs.read_assignment.Statement.{statement}
 use Rattle.assignment_reader.proofs.read_assignment.Tie as tie
 
 -- When the tests have answered: where the outputs were cleared, the start, and what was tested.
-abbrev emptied : tie.After-check-text → tie.After-clear
+abbrev emptied : tie.After-check_text → tie.After-clear
 emptied c = c.before.before.before.before.before.before.before.before.before.before.before.before
 
-abbrev begun : tie.After-check-text → tie.Start
+abbrev begun : tie.After-check_text → tie.Start
 begun c = (emptied c).before.before.before.before.before.before.before
 
-tested : (c : tie.After-check-text) →
+tested : (c : tie.After-check_text) →
     let a = (begun c).args in
-    TextTested (length a.row.now) (length a.column.now) (length a.weight.now) (length a.bound.now) a.text.now c.check-text.result
+    TextTested (length a.row.now) (length a.column.now) (length a.weight.now) (length a.bound.now) a.text.now c.check_text.result
 tested c =
     let lent = c.before in
     let edges = lent.before in
     let ends = edges.before in
     let zeros = ends.before.before in
     tested_by (begun c).args.text.now
-    (lengths_four (length (begun c).args.bound.now) (emptied c).clear.ensures zeros.clear-integers.ensures ends.both.ensures edges.both2.ensures
-    lent.both3.ensures)
-    c.check-text.result c.check-text.ensures
+    (lengths_four (length (begun c).args.bound.now) (emptied c).clear.ensures zeros.clear_integers.ensures ends.both-ends.ensures edges.both-edges.ensures
+    lent.both-lent.ensures)
+    c.check_text.result c.check_text.ensures
 
-read-assignment-lines-requires : tie.Need-read-assignment-lines-requires
+read-assignment-lines-requires : tie.Need-read_assignment_lines-requires
 read-assignment-lines-requires c κs =
     let at-enum-told = c.before.before.before in
-    let at-check-text = at-enum-told.before.before in
-    let clear = at-check-text.before.before.before.before.before.before.before.before.before.before.before.before.clear in
-    lent_cleared (tested at-check-text) at-enum-told.enum_told.given.1 clear.ensures
+    let at-check-text = at-enum-told.before in
+    let clear = at-check-text.clear in
+    lent_cleared (tested at-check-text) at-enum-told.in-Passed.is clear.ensures
 
-set-bounds-requires : tie.Need-set-bounds-requires
+set-bounds-requires : tie.Need-set_bounds-requires
 set-bounds-requires c κs =
-    let at-s = c.before.before.before in
-    let at-read-assignment-lines = at-s.before.before.before.before.before.before.before in
+    let at-s = c.before.before in
+    let at-read-assignment-lines = at-s.before.before.before.before.before.before in
     let at-enum-told = at-read-assignment-lines.before.before.before.before in
-    let at-check-text = at-enum-told.before.before in
-    let clear-integers = at-check-text.before.before.before.before.before.clear-integers in
+    let at-check-text = at-enum-told.before in
+    let clear-integers = at-check-text.clear_integers in
     let T = tested at-check-text in
-    let passed = at-enum-told.enum_told.given.1 in
-    (bounds_cleared T passed clear-integers.ensures, rw c.vertex-count.ensures (read_few T passed at-read-assignment-lines.read-assignment-lines.ensures at-s.s.given.1))
+    let passed = at-enum-told.in-Passed.is in
+    (bounds_cleared T passed clear-integers.ensures, rw c.vertex_count.ensures (read_few T passed at-read-assignment-lines.read_assignment_lines.ensures at-s.in-Graph.is))
 
-returns : tie.Need-returns
+returns : tie.Need-returns-in-Refused
 returns c =
-    let at-check-text = c.before.before.before in
+    let at-check-text = c.before in
     let at-clear-integers = at-check-text.before.before.before.before.before in
-    let clear = at-clear-integers.before.before.before.before.before.before.before.clear in
-    lent_refused (tested at-check-text) c.before.r.given.1 clear.ensures at-clear-integers.clear-integers.ensures
+    let clear = at-clear-integers.clear in
+    lent_refused (tested at-check-text) c.in-Refused.is clear.ensures at-clear-integers.clear_integers.ensures
 
-same-length-5 : tie.Need-same-length-5
+same-length-5 : tie.Need-shape_of-row-in-Graph
 same-length-5 c =
-    let at-read-assignment-lines = c.before.before.before.before.before.before.before.before.before.before.before.before in
-    let clear = at-read-assignment-lines.before.before.before.before.before.before.before.before.before.before.before.before.before.before.before.before.before.before.clear in
-    at-read-assignment-lines.read-assignment-lines.auto.1.0 ∙ row_kept clear.ensures
+    let at-read-assignment-lines = c.before.before.before.before.before.before.before.before.before.before in
+    let clear = at-read-assignment-lines.clear in
+    at-read-assignment-lines.read_assignment_lines.auto.1.0 ∙ row_kept clear.ensures
 
-returns-2 : tie.Need-returns-2
+returns-2 : tie.Need-returns-in-Graph
 returns-2 c =
     let at-vertex-count = c.before.before in
-    let at-s = at-vertex-count.before.before.before in
-    let at-read-assignment-lines = at-s.before.before.before.before.before.before.before in
+    let at-s = at-vertex-count.before.before in
+    let at-read-assignment-lines = at-s.before.before.before.before.before.before in
     let at-enum-told = at-read-assignment-lines.before.before.before.before in
-    let at-check-text = at-enum-told.before.before in
-    answered_read (tested at-check-text) at-enum-told.enum_told.given.1 at-read-assignment-lines.read-assignment-lines.ensures at-s.s.given.1
-    (c.before.set-bounds.ensures ∙ ap (λ k. filled 128 (pos 0) (replicate k (pos 1))) at-vertex-count.vertex-count.ensures)
+    let at-check-text = at-enum-told.before in
+    answered_read (tested at-check-text) at-enum-told.in-Passed.is at-read-assignment-lines.read_assignment_lines.ensures at-s.in-Graph.is
+    (c.set_bounds.ensures ∙ ap (λ k. filled 128 (pos 0) (replicate k (pos 1))) at-vertex-count.vertex_count.ensures)
 
-same-length-9 : tie.Need-same-length-9
+same-length-9 : tie.Need-shape_of-row-in-Refused-read_assignment_lines
 same-length-9 c =
     let at-clear2 = c.before.before.before.before.before in
-    let at-read-assignment-lines = at-clear2.before.before.before.before.before.before.before.before.before.before.before.before in
-    let clear = at-read-assignment-lines.before.before.before.before.before.before.before.before.before.before.before.before.before.before.before.before.before.before.clear in
-    at-clear2.clear2.auto.0 ∙ at-read-assignment-lines.read-assignment-lines.auto.1.0 ∙ row_kept clear.ensures
+    let at-read-assignment-lines = at-clear2.before.before.before.before.before.before.before.before.before.before in
+    let clear = at-read-assignment-lines.clear in
+    at-clear2.clear-in-Refused-read_assignment_lines.auto.0 ∙ at-read-assignment-lines.read_assignment_lines.auto.1.0 ∙ row_kept clear.ensures
 
-same-length-10 : tie.Need-same-length-10
+same-length-10 : tie.Need-shape_of-column-in-Refused-read_assignment_lines
 same-length-10 c =
     let at-clear2 = c.before.before.before.before.before in
-    let at-read-assignment-lines = at-clear2.before.before.before.before.before.before.before.before.before.before.before.before in
-    let clear = at-read-assignment-lines.before.before.before.before.before.before.before.before.before.before.before.before.before.before.before.before.before.before.clear in
-    at-clear2.clear2.auto.1.0 ∙ at-read-assignment-lines.read-assignment-lines.auto.1.1.0 ∙ column_kept clear.ensures
+    let at-read-assignment-lines = at-clear2.before.before.before.before.before.before.before.before.before.before in
+    let clear = at-read-assignment-lines.clear in
+    at-clear2.clear-in-Refused-read_assignment_lines.auto.1.0 ∙ at-read-assignment-lines.read_assignment_lines.auto.1.1.0 ∙ column_kept clear.ensures
 
-same-length-11 : tie.Need-same-length-11
+same-length-11 : tie.Need-shape_of-weight-in-Refused-read_assignment_lines
 same-length-11 c =
     let at-clear2 = c.before.before.before.before.before in
-    let at-read-assignment-lines = at-clear2.before.before.before.before.before.before.before.before.before.before.before.before in
-    let clear = at-read-assignment-lines.before.before.before.before.before.before.before.before.before.before.before.before.before.before.before.before.before.before.clear in
-    at-clear2.clear2.auto.1.1.0 ∙ at-read-assignment-lines.read-assignment-lines.auto.1.1.1.0 ∙ weight-kept clear.ensures
+    let at-read-assignment-lines = at-clear2.before.before.before.before.before.before.before.before.before.before in
+    let clear = at-read-assignment-lines.clear in
+    at-clear2.clear-in-Refused-read_assignment_lines.auto.1.1.0 ∙ at-read-assignment-lines.read_assignment_lines.auto.1.1.1.0 ∙ weight-kept clear.ensures
 
-returns-3 : tie.Need-returns-3
+returns-3 : tie.Need-returns-in-Refused-read_assignment_lines
 returns-3 c =
     let at-clear2 = c.before.before.before.before.before in
-    let at-r2 = at-clear2.before.before.before.before.before in
-    let at-read-assignment-lines = at-r2.before.before.before.before.before.before.before in
+    let at-r2 = at-clear2.before.before.before.before in
+    let at-read-assignment-lines = at-r2.before.before.before.before.before.before in
     let at-enum-told = at-read-assignment-lines.before.before.before.before in
-    let at-check-text = at-enum-told.before.before in
+    let at-check-text = at-enum-told.before in
     let at-clear-integers = at-check-text.before.before.before.before.before in
-    let clear = at-clear-integers.before.before.before.before.before.before.before.clear in
-    let kept = at-read-assignment-lines.read-assignment-lines.auto.1 in
+    let clear = at-clear-integers.clear in
+    let kept = at-read-assignment-lines.read_assignment_lines.auto.1 in
     let zeros = clear.ensures in
-    answered_refused (tested at-check-text) at-enum-told.enum_told.given.1 at-read-assignment-lines.read-assignment-lines.ensures at-r2.r2.given.1
-    (cleared_again at-clear2.clear2.ensures (kept.0 ∙ row_kept zeros) (kept.1.0 ∙ column_kept zeros) (kept.1.1.0 ∙ weight-kept zeros))
-    at-clear-integers.clear-integers.ensures
+    answered_refused (tested at-check-text) at-enum-told.in-Passed.is at-read-assignment-lines.read_assignment_lines.ensures at-r2.in-Refused-read_assignment_lines.is
+    (cleared_again at-clear2.clear-in-Refused-read_assignment_lines.ensures (kept.0 ∙ row_kept zeros) (kept.1.0 ∙ column_kept zeros) (kept.1.1.0 ∙ weight-kept zeros))
+    at-clear-integers.clear_integers.ensures
 
-pub read-assignment-spec : {M : Type 1} → statement M
-read-assignment-spec =
+pub read_assignment_spec : {M : Type 1} → statement M
+read_assignment_spec =
     tie.close
     (tie.spec
     (λ c κs. search rules)

@@ -4,18 +4,23 @@ use borrow.Author.Rules.{rules}
 use Rattle.assignment_reader.proofs.set_bounds.Statement.{statement}
 use Rattle.assignment_reader.proofs.set_bounds.Tie as tie
 
-slice-relend-prefix-fill : tie.Need-slice-relend-prefix-fill
+slice-relend-prefix-fill : tie.Need-slice_bounds-fill-end
 slice-relend-prefix-fill c = bounds_room c.requires.0 c.args.n c.requires.1
 
-slice-aggregate-fill : tie.Need-slice-aggregate-fill
-slice-aggregate-fill c = bounds-lent c.before.requires.0 c.before.args.n c.before.requires.1
+slice-aggregate-fill : tie.Need-slice_bounds-fill-end-2
+slice-aggregate-fill c = bounds-lent c.requires.0 c.args.n c.requires.1
 
 returns : tie.Need-returns
 returns c =
     let start = c.before.before.before in
-    bounds_set start.requires.0 start.args.n start.requires.1 c.before.fill.ensures
+    bounds_set start.requires.0 start.args.n start.requires.1 c.fill.ensures
 
-pub set-bounds-spec : {M : Type 1} → statement M
-set-bounds-spec =
+pub set_bounds_spec : {M : Type 1} → statement M
+set_bounds_spec =
     tie.close
-    (tie.spec slice-relend-prefix-fill slice-aggregate-fill (λ c κs. search rules) (λ c. search rules) returns)
+    (tie.spec
+    slice-relend-prefix-fill
+    slice-aggregate-fill
+    (λ c κs. search rules)
+    (λ c. search rules)
+    returns)

@@ -10,39 +10,39 @@ use Rattle.assignment_writer.proofs.check_assignment.Tie as tie
 abbrev graph : tie.Start → Graph
 graph s = graph_of s.args.s s.args.row.now s.args.column.now s.args.weight.now
 
-returns : tie.Need-returns
+returns : tie.Need-returns-in-Refused
 returns c =
-    let tests = c.before.before.before in
+    let tests = c.before in
     let s = tests.before.before.before in
-    first_refused (graph s) s.args.bound.now s.args.out tests.check-bipartite.ensures c.before.r.given.1
+    first_refused (graph s) s.args.bound.now s.args.out tests.check_bipartite.ensures c.in-Refused.is
 
-refused-item-requires : tie.Need-refused-item-requires
+refused-item-requires : tie.Need-refused_item-requires
 refused-item-requires c κs =
-    let found = c.before.before.before in
-    let tests = found.before.before.before in
+    let found = c.before in
+    let tests = found.before.before in
     let s = tests.before.before.before in
-    bound_among (graph s) s.args.bound.now s.args.out tests.check-bipartite.ensures found.before.enum_told.given.1
-    found.lowest-not-one.ensures c.before.v.given.1
+    bound_among (graph s) s.args.bound.now s.args.out tests.check_bipartite.ensures found.in_default.is
+    found.lowest_not_one.ensures c.in-At.is
 
-returns-2 : tie.Need-returns-2
+returns-2 : tie.Need-returns-in-At
 returns-2 c =
-    let found = c.before.before.before.before in
-    let tests = found.before.before.before in
-    let s = tests.before.before.before in
-    c.refused-item.ensures
-    ∙ bound_refused (graph s) s.args.bound.now s.args.out tests.check-bipartite.ensures found.before.enum_told.given.1
-    found.lowest-not-one.ensures c.before.before.v.given.1
-
-returns-3 : tie.Need-returns-3
-returns-3 c =
     let found = c.before.before in
-    let tests = found.before.before.before in
+    let tests = found.before.before in
     let s = tests.before.before.before in
-    all_passed (graph s) s.args.bound.now s.args.out tests.check-bipartite.ensures found.before.enum_told.given.1
-    found.lowest-not-one.ensures c.enum-told2.given.1
+    c.refused_item.ensures
+    ∙ bound_refused (graph s) s.args.bound.now s.args.out tests.check_bipartite.ensures found.in_default.is
+    found.lowest_not_one.ensures c.in-At.is
 
-pub check-assignment-spec : {M : Type 1} → statement M
-check-assignment-spec =
+returns-3 : tie.Need-returns
+returns-3 c =
+    let found = c.before in
+    let tests = found.before.before in
+    let s = tests.before.before.before in
+    all_passed (graph s) s.args.bound.now s.args.out tests.check_bipartite.ensures found.in_default.is
+    found.lowest_not_one.ensures c.in_default-lowest_not_one.is
+
+pub check_assignment_spec : {M : Type 1} → statement M
+check_assignment_spec =
     tie.close
     (tie.spec
     (λ c κs. search rules)

@@ -20,41 +20,41 @@ target s = s.args.s.rows + get_or s.args.column.now s.args.e 0
 abbrev cost : tie.Start → ℤ
 cost s = neg_ℤ (get_or s.args.weight.now s.args.e (pos 0))
 
-abbrev at_field : tie.After-put-signed → tie.After-put-field
+abbrev at_field : tie.After-put_signed-end → tie.After-put_field-b
 at_field c = c.before.before.before.before.before.before.before.before.before.before.before
 
-abbrev begun : tie.After-put-signed → tie.Start
+abbrev begun : tie.After-put_signed-end → tie.Start
 begun c = let a = at_field c in a.before.before.before.before.before.before.before.before.before.before.before
 
 -- What has been written when the cost has.
-costed : (c : tie.After-put-signed) →
+costed : (c : tie.After-put_signed-end) →
     let s = begun c in
-    let p = c.put-signed in
+    let p = c.put_signed-end in
     Part s.args.out.now s.args.at (arc_front (row_of s) (target s) (cost s)) p.new.0 p.result (s.args.at + 2 + 21 + 21 + 21)
 costed c =
     let s = begun c in
-    let w = c.before.cost-of in
+    let w = c.cost_of in
     let n = c.before.before.before.before.before in
     let f = at_field c in
-    arc_part s.pre.0 (row_of s) (target s) (cost s) f.before.before.before.before.before.put-bytes.ensures f.put-field.ensures
-    n.before.before.column-node.ensures n.put-field2.ensures w.ensures w.type-inv c.put-signed.ensures
+    arc_part s.requires.0 (row_of s) (target s) (cost s) f.put_bytes-a.ensures f.put_field-b.ensures
+    n.column_node-target.ensures n.put_field-c.ensures w.ensures w.type_inv c.put_signed-end.ensures
 
-cast-put-field : tie.Need-overflow-cast-put-field
-cast-put-field c = omega (arith, c.shared-slice-known3.given c.before.before.before.before.before.before.before.before.before.before.args.e)
+cast-put-field : tie.Need-overflow_cast-row
+cast-put-field c = omega (arith, c.shared_slice_known-3-1.given c.args.e)
 
-same_length : tie.Need-same-length
+same_length : tie.Need-shape_of-out
 same_length c =
     let t = c.before.before in
-    length-set t.put-signed.new.0 t.put-signed.result 10 ∙ (costed t).long
+    length-set t.put_signed-end.new.0 t.put_signed-end.result 10 ∙ (costed t).long
 
 returns : tie.Need-returns
 returns c =
     let t = c.before.before in
     let s = begun t in
-    arc_put s.pre.0 (row_of s) (target s) (cost s) (costed t)
+    arc_put s.requires.0 (row_of s) (target s) (cost s) (costed t)
 
-pub put-arc-spec : {M : Type 1} → statement M
-put-arc-spec =
+pub put_arc_spec : {M : Type 1} → statement M
+put_arc_spec =
     tie.close
     (tie.spec
     (λ c. search rules)

@@ -12,54 +12,54 @@ use Rattle.writer.proofs.Writing.{LinesWriting, lines_start, lines-room, lines_m
 use Rattle.assignment_writer.proofs.put_arcs.Statement.{statement}
 use Rattle.assignment_writer.proofs.put_arcs.Tie as tie
 
-abbrev invariant-loop : tie.invariant-loop
+abbrev invariant-loop : tie.invariant-loop-e
 invariant-loop out₀ start s row column weight at₀ e₀ out at e = LinesWriting (arc_lines (graph_of s row column weight)) (length row) 19 64 out₀ start out at e
 
-abbrev decreases-loop : tie.decreases-loop
+abbrev decreases-loop : tie.decreases-loop-e
 decreases-loop out₀ start s row column weight at₀ e₀ out at e = length row - e
 
 -- The graph of the parameters.
 abbrev graph : tie.Start invariant-loop decreases-loop → Graph
 graph s = graph_of s.args.s s.args.row.now s.args.column.now s.args.weight.now
 
-loop-holds : tie.Need-loop-init invariant-loop decreases-loop
+loop-holds : tie.Need-loop-e-init invariant-loop decreases-loop
 loop-holds c =
     let s = c.before.before.before in
     let S = s.requires.1.sound in
     lines_start (arcs_growing (graph s)) (length s.args.row.now) 19 64 s.args.out.now s.args.start
     (omega (arith, s.requires.0, S.row_long, S.sizes.few))
 
-put-arc-requires : tie.Need-put-arc-requires invariant-loop decreases-loop
+put-arc-requires : tie.Need-put_arc-at-requires invariant-loop decreases-loop
 put-arc-requires c κs =
     let l = c.before.before in
     let s = l.before.before.before.before in
     let P = s.requires.1 in
-    let lt = c.before.loop-test.true in (
-      omega (arith, lines-room (arcs_growing (graph s)) (length s.args.row.now) 19 64 l.loop.invariant lt),
+    let lt = c.loop-e-test.true in (
+      omega (arith, lines-room (arcs_growing (graph s)) (length s.args.row.now) 19 64 l.loop-e.invariant lt),
       (lt, omega (arith, lt, P.sound.row_long, P.sound.column_long), omega (arith, lt, P.sound.row_long, P.weight_long)),
     )
 
-loop-again : tie.Need-loop-preserved invariant-loop decreases-loop
+loop-again : tie.Need-loop-e-preserved invariant-loop decreases-loop
 loop-again c =
-    let p = c.before.before.put-arc in
+    let p = c.put_arc-at in
     let test = c.before.before.before.before in
-    let lt = test.loop-test.true in
+    let lt = test.loop-e-test.true in
     let s = test.before.before.before.before.before in
     let P = s.requires.1 in
-    lines_more (arcs_growing (graph s)) (length s.args.row.now) 19 64 test.before.loop.invariant lt (arc_text_le P _ (omega (arith, lt, P.sound.row_long)))
+    lines_more (arcs_growing (graph s)) (length s.args.row.now) 19 64 test.loop-e.invariant lt (arc_text_le P _ (omega (arith, lt, P.sound.row_long)))
     p.auto.0 p.ensures
 
-same_length : tie.Need-same-length invariant-loop decreases-loop
-same_length c = c.before.loop.invariant.long
+same_length : tie.Need-shape_of-out invariant-loop decreases-loop
+same_length c = c.loop-e.invariant.long
 
 returns : tie.Need-returns invariant-loop decreases-loop
 returns c =
     let s = c.before.before.before.before.before in
-    puts_same (lines_end (arcs_growing (graph s)) (length s.args.row.now) 19 64 c.before.loop.invariant (omega (arith, c.loop-test.false)))
+    puts_same (lines_end (arcs_growing (graph s)) (length s.args.row.now) 19 64 c.loop-e.invariant (omega (arith, c.loop-e-test.false)))
     (ap (λ (n : ℕ). unlines (arc_lines (graph s) n)) s.requires.1.sound.row_long)
 
-pub put-arcs-spec : {M : Type 1} → statement M
-put-arcs-spec =
+pub put_arcs_spec : {M : Type 1} → statement M
+put_arcs_spec =
     tie.close
     (tie.spec
     invariant-loop

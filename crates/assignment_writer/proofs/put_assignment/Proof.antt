@@ -9,28 +9,28 @@ use Rattle.assignment_writer.proofs.put_assignment.Statement.{statement}
 use Rattle.assignment_writer.proofs.put_assignment.Tie as tie
 
 -- When `out` has been cleared: the start, and how long it is.
-abbrev begun : tie.After-clear-bytes → tie.Start
+abbrev begun : tie.After-clear_bytes → tie.Start
 begun c = c.before.before.before.before.before
 
-cleared : (c : tie.After-clear-bytes) → length c.clear-bytes.new.0 ≡ longest_text
-cleared c = c.clear-bytes.auto.0 ∙ (begun c).requires.0
+cleared : (c : tie.After-clear_bytes) → length c.clear_bytes.new.0 ≡ longest_text
+cleared c = c.clear_bytes.auto.0 ∙ (begun c).requires.0
 
-put-sources-requires : tie.Need-put-sources-requires
+put-sources-requires : tie.Need-put_sources-b-requires
 put-sources-requires c κs =
     let problem = c.before.before.before in
     let z = problem.before.before.before.before in
     let P = (begun z).requires.1 in
-    let p = problem.put-problem in
+    let p = problem.put_problem-a in
     (P.sound.sizes.rows.greatest, sources_room P (cleared z) p.ensures p.auto.0)
 
-put-arcs-requires : tie.Need-put-arcs-requires
+put-arcs-requires : tie.Need-put_arcs-requires
 put-arcs-requires c κs =
     let sources = c.before.before.before in
     let problem = sources.before.before.before.before in
     let z = problem.before.before.before.before in
     let P = (begun z).requires.1 in
-    let p = problem.put-problem in
-    let q = sources.put-sources in
+    let p = problem.put_problem-a in
+    let q = sources.put_sources-b in
     (arcs_room P (cleared z) p.ensures p.auto.0 q.ensures q.auto.0, P)
 
 returns : tie.Need-returns
@@ -40,13 +40,13 @@ returns c =
     let problem = sources.before.before.before.before in
     let z = problem.before.before.before.before in
     let s = begun z in
-    let p = problem.put-problem in
-    let q = sources.put-sources in
-    text_written s.pre.1 (cleared z) p.ensures p.auto.0 q.ensures q.auto.0 arcs.put-arcs.ensures
-    (z.clear-bytes.ensures ∙ ap (λ (n : ℕ). replicate n 0) s.pre.0)
+    let p = problem.put_problem-a in
+    let q = sources.put_sources-b in
+    text_written s.requires.1 (cleared z) p.ensures p.auto.0 q.ensures q.auto.0 arcs.put_arcs.ensures
+    (z.clear_bytes.ensures ∙ ap (λ (n : ℕ). replicate n 0) s.requires.0)
 
-pub put-assignment-spec : {M : Type 1} → statement M
-put-assignment-spec =
+pub put_assignment_spec : {M : Type 1} → statement M
+put_assignment_spec =
     tie.close
     (tie.spec
     (λ c κs. search rules)

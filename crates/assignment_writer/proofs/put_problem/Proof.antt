@@ -12,10 +12,10 @@ returns c =
     let tag = first.before.before.before.before.before.before in
     let s = tag.before.before.before.before in
     let t = s.args.s in
-    problem_put (t.rows + t.columns) t.edges s.requires tag.put-bytes.ensures first.put-field.ensures second.put-field2.ensures
+    problem_put (t.rows + t.columns) t.edges s.requires tag.put_bytes-a.ensures first.put_field-b.ensures second.put_field.ensures
 
-pub put-problem-spec : {M : Type 1} → statement M
-put-problem-spec =
+pub put_problem_spec : {M : Type 1} → statement M
+put_problem_spec =
     tie.close
     (tie.spec
     (λ c. search rules)

@@ -10,10 +10,10 @@ returns c =
     let tag = node.before.before.before.before in
     let number = tag.before.before.before in
     let s = number.before.before in
-    source_put s.args.v s.requires tag.put-bytes.ensures number.source-node.ensures node.put-field.ensures
+    source_put s.args.v s.requires tag.put_bytes-a.ensures number.source_node-node.ensures node.put_field.ensures
 
-pub put-source-spec : {M : Type 1} → statement M
-put-source-spec =
+pub put_source_spec : {M : Type 1} → statement M
+put_source_spec =
     tie.close
     (tie.spec
     (λ c κs. search rules)

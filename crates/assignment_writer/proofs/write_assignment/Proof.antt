@@ -18,36 +18,36 @@ graph s = graph_of s.args.s s.args.row.now s.args.column.now s.args.weight.now
 abbrev room : tie.Start → ℕ
 room s = length s.args.out.now
 
-returns : tie.Need-returns
+returns : tie.Need-returns-in-Refused
 returns c =
-    let refusal = c.before.before.before.before.before in
-    let tests = refusal.before.before in
+    let refusal = c.before.before.before.before in
+    let tests = refusal.before in
     let s = tests.before.before.before.before in
-    let w = refused (graph s) s.args.bound.now (room s) tests.check-assignment.ensures refusal.r.given.1 in
-    (sym (ap (λ (o : Outcome (List ℕ)). told (reported length o)) w), c.before.before.clear-bytes.ensures ∙ sym (ap (output (room s) 0 (λ t. t)) w))
+    let w = refused (graph s) s.args.bound.now (room s) tests.check_assignment.ensures refusal.in-Refused.is in
+    (sym (ap (λ (o : Outcome (List ℕ)). told (reported length o)) w), c.clear_bytes.ensures ∙ sym (ap (output (room s) 0 (λ t. t)) w))
 
-answer-assignment-requires : tie.Need-answer-assignment-requires
+answer-assignment-requires : tie.Need-answer_assignment-requires
 answer-assignment-requires c κs =
-    let tests = c.before.before.before in
+    let tests = c.before.before in
     let s = tests.before.before.before.before in
-    let says = tests.check-assignment.ensures in
-    let is = c.before.enum_told.given.1 in
+    let says = tests.check_assignment.ensures in
+    let is = c.in_default.is in
     (size (graph s) s.args.bound.now (room s) says is, passed (graph s) s.args.bound.now (room s) says is)
 
-returns-2 : tie.Need-returns-2
+returns-2 : tie.Need-returns
 returns-2 c =
     let told-passed = c.before.before.before.before in
-    let tests = told-passed.before.before in
+    let tests = told-passed.before in
     let s = tests.before.before.before.before in
-    let says = tests.check-assignment.ensures in
-    let is = told-passed.enum_told.given.1 in
+    let says = tests.check_assignment.ensures in
+    let is = told-passed.in_default.is in
     let text = yielded (graph s) s.args.bound.now (room s) says is in
     let long = size (graph s) s.args.bound.now (room s) says is in
-    let a = c.before.before.answer-assignment in
+    let a = c.answer_assignment in
     (answered text long a.new.0 a.result a.ensures, filled_in text long a.new.0 a.result a.ensures)
 
-pub write-assignment-spec : {M : Type 1} → statement M
-write-assignment-spec =
+pub write_assignment_spec : {M : Type 1} → statement M
+write_assignment_spec =
     tie.close
     (tie.spec
     (λ c κs. search rules)

@@ -6,90 +6,90 @@ use Rattle.augment.proofs.Going.{Going, starts, vertex_low, is-sound, marks_long
 use Rattle.augment.proofs.augment.Statement.{statement}
 use Rattle.augment.proofs.augment.Tie as tie
 
-abbrev invariant-loop : tie.invariant-loop
+abbrev invariant-loop : tie.invariant-loop-vertex
 invariant-loop chosen₀ list₀ place₀ s row column label root v gap vertex₀ hole₀ left₀ chosen list place vertex hole left =
     Going s row column label root v chosen₀ (length list₀) vertex left chosen list place hole
 
-abbrev decreases-loop : tie.decreases-loop
+abbrev decreases-loop : tie.decreases-loop-vertex
 decreases-loop chosen₀ list₀ place₀ s row column label root v gap vertex₀ hole₀ left₀ chosen list place vertex hole left = left
 
 -- A turn of the loop, where the walk is not at the root.
 abbrev Turn : Type 0
-Turn = tie.In-loop invariant-loop decreases-loop
+Turn = tie.In-loop-vertex invariant-loop decreases-loop
 
-away : (c : Turn) → c.before.loop.vertex ≢ c.before.before.before.before.before.args.root
-away c = λ q. omega (arith, q, c.loop-test.true)
+away : (c : Turn) → c.loop-vertex.vertex ≢ c.args.root
+away c = λ q. omega (arith, q, c.loop-vertex-test.true)
 
-loop-holds : tie.Need-loop-init invariant-loop decreases-loop
+loop-holds : tie.Need-loop-vertex-init invariant-loop decreases-loop
 loop-holds c = let start = c.before.before.before in starts start.requires.0 start.requires.1
 
-mul-edge : tie.Need-overflow-mul-edge invariant-loop decreases-loop
-mul-edge c = omega (arith, vertex_low c.before.loop.invariant)
+mul-edge : tie.Need-offset_bounds-label-vertex invariant-loop decreases-loop
+mul-edge c = omega (arith, vertex_low c.loop-vertex.invariant)
 
-element-copy-out-edge : tie.Need-element-copy-out-edge invariant-loop decreases-loop
-element-copy-out-edge c = vertex_low c.before.loop.invariant
+element-copy-out-edge : tie.Need-bounds-label-vertex invariant-loop decreases-loop
+element-copy-out-edge c = vertex_low c.loop-vertex.invariant
 
-cast-other-end : tie.Need-overflow-cast-other-end invariant-loop decreases-loop
-cast-other-end c = let turn = c.before in omega (arith, edge_low turn.before.loop.invariant (away turn))
+cast-other-end : tie.Need-overflow_cast-edge invariant-loop decreases-loop
+cast-other-end c = let turn = c.before in omega (arith, edge_low turn.loop-vertex.invariant (away turn))
 
-other-end-requires : tie.Need-other-end-requires invariant-loop decreases-loop
-other-end-requires c κs = let turn = c.before in let going = turn.before.loop.invariant in (is-sound going, edge_inside going (away turn))
+other-end-requires : tie.Need-other_end-next-requires invariant-loop decreases-loop
+other-end-requires c κs = let turn = c.before in let going = turn.loop-vertex.invariant in (is-sound going, edge_inside going (away turn))
 
-cast-relist : tie.Need-overflow-cast-relist invariant-loop decreases-loop
-cast-relist c = let turn = c.before.before in omega (arith, edge_low turn.before.loop.invariant (away turn))
+cast-relist : tie.Need-overflow_cast-edge-in-loop-vertex invariant-loop decreases-loop
+cast-relist c = let turn = c.before.before in omega (arith, edge_low turn.loop-vertex.invariant (away turn))
 
-slice-read-relist : tie.Need-slice-read-relist invariant-loop decreases-loop
-slice-read-relist c = let turn = c.before.before.before in edge_in-marks turn.before.loop.invariant (away turn)
+slice-read-relist : tie.Need-bounds-chosen-edge invariant-loop decreases-loop
+slice-read-relist c = let turn = c.before.before.before in edge_in-marks turn.loop-vertex.invariant (away turn)
 
-relist-requires : tie.Need-relist-requires invariant-loop decreases-loop
+relist-requires : tie.Need-relist-hole-requires invariant-loop decreases-loop
 relist-requires c κs =
     let turn = c.before.before.before.before.before in
-    let going = turn.before.loop.invariant in
+    let going = turn.loop-vertex.invariant in
     (edge_low going (away turn), hole_fits going (away turn))
 
-cast-flip : tie.Need-overflow-cast-flip invariant-loop decreases-loop
-cast-flip c = let turn = c.before.before.before.before.before.before.before.before in omega (arith, edge_low turn.before.loop.invariant (away turn))
+cast-flip : tie.Need-overflow_cast-edge-in-loop-vertex-2 invariant-loop decreases-loop
+cast-flip c = let turn = c.before.before.before.before.before.before.before.before in omega (arith, edge_low turn.loop-vertex.invariant (away turn))
 
 flip-requires : tie.Need-flip-requires invariant-loop decreases-loop
 flip-requires c κs =
     let turn = c.before.before.before.before.before.before.before.before in
-    let going = turn.before.loop.invariant in
+    let going = turn.loop-vertex.invariant in
     (edge_in-marks going (away turn), mark_low going (away turn))
 
-sub-left : tie.Need-overflow-sub-left invariant-loop decreases-loop
+sub-left : tie.Need-overflow_sub-left invariant-loop decreases-loop
 sub-left c =
     let at-relist = c.before.before.before.before.before in
     let turn = at-relist.before.before.before.before.before.before in
-    some_left turn.before.loop.invariant
+    some_left turn.loop-vertex.invariant
 
-loop-less : tie.Need-loop-smaller invariant-loop decreases-loop
+loop-less : tie.Need-loop-vertex-smaller invariant-loop decreases-loop
 loop-less c =
     let at-relist = c.before.before.before.before.before in
     let turn = at-relist.before.before.before.before.before.before in
-    omega (arith, some_left turn.before.loop.invariant)
+    omega (arith, some_left turn.loop-vertex.invariant)
 
-loop-again : tie.Need-loop-preserved invariant-loop decreases-loop
+loop-again : tie.Need-loop-vertex-preserved invariant-loop decreases-loop
 loop-again c =
     let at-flip = c.before.before in
     let at-relist = at-flip.before.before.before in
     let at-other-end = at-relist.before.before.before.before in
     let turn = at-other-end.before.before in
-    let going = turn.before.loop.invariant in
-    goes going (away turn) at-flip.flip.ensures at-other-end.other-end.ensures at-relist.relist.ensures (omega (arith, some_left going))
+    let going = turn.loop-vertex.invariant in
+    goes going (away turn) at-flip.flip.ensures at-other-end.other_end-next.ensures at-relist.relist-hole.ensures (omega (arith, some_left going))
 
-same_length : tie.Need-same-length invariant-loop decreases-loop
-same_length c = marks_long c.before.loop.invariant
+same_length : tie.Need-shape_of-chosen invariant-loop decreases-loop
+same_length c = marks_long c.loop-vertex.invariant
 
-same-length-2 : tie.Need-same-length-2 invariant-loop decreases-loop
-same-length-2 c = c.before.loop.invariant.list_length
+same-length-2 : tie.Need-shape_of-list invariant-loop decreases-loop
+same-length-2 c = c.loop-vertex.invariant.list_length
 
 returns : tie.Need-returns invariant-loop decreases-loop
 returns c =
-    let going = c.before.loop.invariant in
-    (arrives going (omega (arith, c.loop-test.false)), (keeps-lists going (omega (arith, c.loop-test.false)), going.lists.place-long))
+    let going = c.loop-vertex.invariant in
+    (arrives going (omega (arith, c.loop-vertex-test.false)), (keeps-lists going (omega (arith, c.loop-vertex-test.false)), going.lists.place-long))
 
-pub augment-spec : {M : Type 1} → statement M
-augment-spec =
+pub augment_spec : {M : Type 1} → statement M
+augment_spec =
     tie.close
     (tie.spec
     invariant-loop

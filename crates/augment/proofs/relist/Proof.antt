@@ -5,9 +5,9 @@ use borrow.Author.Rules.{rules}
 use Rattle.augment.proofs.relist.Statement.{statement}
 use Rattle.augment.proofs.relist.Tie as tie
 
-returns : tie.Need-returns
+returns : tie.Need-returns-then-mark-gt0
 returns c =
-    let chosen = c.before.if1.true in
+    let chosen = c.if-mark-gt0.true in
     record {
       list_put = λ z. absurd (omega (arith, z, chosen));
       place_put = λ z. absurd (omega (arith, z, chosen));
@@ -17,16 +17,16 @@ returns c =
       hole_is = λ o. refl;
     }
 
-put-natural-requires : tie.Need-put-natural-requires
+put-natural-requires : tie.Need-put_natural-requires
 put-natural-requires c κs =
     let start = c.before.before in
-    (start.requires.1 (omega (arith, c.before.if1.false)), omega (arith, start.requires.0))
+    (start.requires.1 (omega (arith, c.if-mark-gt0.false)), omega (arith, start.requires.0))
 
-returns-2 : tie.Need-returns-2
+returns-2 : tie.Need-returns
 returns-2 c =
-    let unchosen : c.before.before.before.before.args.mark ≡ 0 = omega (arith, c.before.before.before.if1.false) in
+    let unchosen : c.args.mark ≡ 0 = omega (arith, c.if-mark-gt0.false) in
     record {
-      list_put = λ z. c.before.put-natural.ensures;
+      list_put = λ z. c.put_natural.ensures;
       place_put = λ z. refl;
       list_kept = λ o. absurd (omega (arith, o, unchosen));
       place_kept = λ o. absurd (omega (arith, o, unchosen));
@@ -34,8 +34,8 @@ returns-2 c =
       hole_is = λ o. absurd (omega (arith, o, unchosen));
     }
 
-pub relist-spec : {M : Type 1} → statement M
-relist-spec =
+pub relist_spec : {M : Type 1} → statement M
+relist_spec =
     tie.close
     (tie.spec
     (λ c. search rules)

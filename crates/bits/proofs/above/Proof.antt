@@ -9,16 +9,19 @@ use borrow.Author.Rules.{rules}
 use Rattle.bits.proofs.above.Statement.{statement}
 use Rattle.bits.proofs.above.Tie as tie
 
-returns : tie.Need-returns
+returns : tie.Need-returns-then-k
 returns c =
     let start = c.before in
-    sym (some_above start.args.word start.args.k start.ranges.word.fits c.if1.true)
+    sym (some_above start.args.word start.args.k start.ranges.word.fits c.if-k.true)
 
-returns-2 : tie.Need-returns-2
+returns-2 : tie.Need-returns-else-k
 returns-2 c =
-    let args = c.before.args in
+    let args = c.args in
     let e : 64 - args.k ≡ 0 = omega arith in
     sym (ap (λ n. some? n (λ j. bit_of args.word (args.k + j))) e)
 
-pub above-spec : {M : Type 1} → statement M
-above-spec = tie.close (tie.spec (λ c. search rules) returns returns-2)
+pub above_spec : {M : Type 1} → statement M
+above_spec = tie.close (tie.spec
+    (λ c. search rules)
+    returns
+    returns-2)

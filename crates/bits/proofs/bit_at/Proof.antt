@@ -11,10 +11,15 @@ use Rattle.bits.proofs.bit_at.Tie as tie
 
 returns : tie.Need-returns
 returns c =
-    let a = c.before.args in
+    let a = c.args in
     let w = get_or a.words.now (a.from + a.i / 64) 0 in
     ap (λ d. eqb d 1) (and_mask (w / 2 ^ (a.i % 64)) 1) ∙ sym (bit-from a.words.now a.from a.i)
 
-pub bit-at-spec : {M : Type 1} → statement M
-bit-at-spec =
-    tie.close (tie.spec (λ c. search rules) (λ c. search rules) (λ c. search rules) (λ c. search rules) returns)
+pub bit_at_spec : {M : Type 1} → statement M
+bit_at_spec =
+    tie.close (tie.spec
+    (λ c. search rules)
+    (λ c. search rules)
+    (λ c. search rules)
+    (λ c. search rules)
+    returns)

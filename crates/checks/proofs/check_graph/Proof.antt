@@ -19,118 +19,118 @@ abbrev graph : tie.Start → Graph
 graph s =
     graph_of s.args.s s.args.row.now s.args.column.now s.args.weight.now
 
-abbrev start : tie.Then1 → tie.Start
+abbrev start : tie.Then-sizes_in_range → tie.Start
 start c = c.before.before.before.before
 
 -- What the tests made so far say of it.
-sizes : (c : tie.Then1) → sizes_kept (graph (start c)) ≡ true
-sizes c = sym c.before.sizes-in-range.ensures ∙ c.if1.true
+sizes : (c : tie.Then-sizes_in_range) → sizes_kept (graph (start c)) ≡ true
+sizes c = sym c.sizes_in_range.ensures ∙ c.if-sizes_in_range.true
 
-ends-say : (c : tie.After-lowest-ends) {m : Lowest} → c.lowest-ends.result ≡ m →
+ends-say : (c : tie.After-lowest_ends) {m : Lowest} → c.lowest_ends.result ≡ m →
     lowest (start c.before).args.s.edges (ends_kept (graph (start c.before))) ≡ lowest_says m
-ends-say c is = says (ends_kept (graph (start c.before))) c.lowest-ends.ensures is (start c.before).requires.0
+ends-say c is = says (ends_kept (graph (start c.before))) c.lowest_ends.ensures is (start c.before).requires.0
 
-weights-say : (c : tie.After-lowest-weight) {m : Lowest} →
-    let at-then1 = c.before.before.before.before in
-    c.lowest-weight.result ≡ m → lowest (start at-then1).args.s.edges (weight_kept (graph (start at-then1))) ≡ lowest_says m
+weights-say : (c : tie.After-lowest_weight) {m : Lowest} →
+    let at-then1 = c.before.before.before in
+    c.lowest_weight.result ≡ m → lowest (start at-then1).args.s.edges (weight_kept (graph (start at-then1))) ≡ lowest_says m
 weights-say c is =
-    let at-then1 = c.before.before.before.before in
-    says (weight_kept (graph (start at-then1))) c.lowest-weight.ensures is (start at-then1).requires.2
+    let at-then1 = c.before.before.before in
+    says (weight_kept (graph (start at-then1))) c.lowest_weight.ensures is (start at-then1).requires.2
 
-ends-again : (c : tie.After-lowest-repeat) {m : Lowest} →
-    let at-then1 = c.before.before.before.before.before.before.before in
-    c.lowest-repeat.result ≡ m → lowest (start at-then1).args.s.edges (new_ends (graph (start at-then1))) ≡ lowest_says m
+ends-again : (c : tie.After-lowest_repeat) {m : Lowest} →
+    let at-then1 = c.before.before.before.before.before in
+    c.lowest_repeat.result ≡ m → lowest (start at-then1).args.s.edges (new_ends (graph (start at-then1))) ≡ lowest_says m
 ends-again c is =
-    let at-then1 = c.before.before.before.before.before.before.before in
-    says (new_ends (graph (start at-then1))) c.lowest-repeat.ensures is (start at-then1).requires.0
+    let at-then1 = c.before.before.before.before.before in
+    says (new_ends (graph (start at-then1))) c.lowest_repeat.ensures is (start at-then1).requires.0
 
-refused-item-requires : tie.Need-refused-item-requires
+refused-item-requires : tie.Need-refused_item-requires
 refused-item-requires c κs =
     let e = c.before.e in
-    let at-lowest-ends = c.before.before.before in
+    let at-lowest-ends = c.before in
     let at-then1 = at-lowest-ends.before in
     let beginning = at-then1.before.before.before.before in
     among (graph beginning) (ends_kept (graph beginning)) e.given.0.0 (sizes at-then1) (ends-say at-lowest-ends e.given.1)
 
-returns : tie.Need-returns
+returns : tie.Need-returns-in-At
 returns c =
     let e = c.before.before.e in
-    let at-lowest-ends = c.before.before.before.before in
+    let at-lowest-ends = c.before.before in
     let at-then1 = at-lowest-ends.before in
     let beginning = at-then1.before.before.before.before in
-    c.refused-item.ensures ∙ ends_refused (graph beginning) (yields tt) (sizes at-then1) e.given.0.0 (ends-say at-lowest-ends e.given.1)
+    c.refused_item.ensures ∙ ends_refused (graph beginning) (yields tt) (sizes at-then1) e.given.0.0 (ends-say at-lowest-ends e.given.1)
 
-refused-item-requires-2 : tie.Need-refused-item-requires-2
+refused-item-requires-2 : tie.Need-refused_item-requires-in-At-lowest_weight
 refused-item-requires-2 c κs =
     let e2 = c.before.e2 in
-    let at-lowest-weight = c.before.before.before in
-    let at-then1 = at-lowest-weight.before.before.before.before in
+    let at-lowest-weight = c.before in
+    let at-then1 = at-lowest-weight.before.before.before in
     let beginning = at-then1.before.before.before.before in
     among (graph beginning) (weight_kept (graph beginning)) e2.given.0.0 (sizes at-then1) (weights-say at-lowest-weight e2.given.1)
 
-returns-2 : tie.Need-returns-2
+returns-2 : tie.Need-returns-in-At-lowest_weight
 returns-2 c =
     let e2 = c.before.before.e2 in
-    let at-lowest-weight = c.before.before.before.before in
+    let at-lowest-weight = c.before.before in
     let at-enum-told = at-lowest-weight.before in
-    let at-lowest-ends = at-enum-told.before.before in
+    let at-lowest-ends = at-enum-told.before in
     let at-then1 = at-lowest-ends.before in
     let beginning = at-then1.before.before.before.before in
-    c.refused-item2.ensures
-    ∙ weight_refused (graph beginning) (yields tt) (sizes at-then1) (ends-say at-lowest-ends at-enum-told.enum_told.given.1)
+    c.refused_item-in-At-lowest_weight.ensures
+    ∙ weight_refused (graph beginning) (yields tt) (sizes at-then1) (ends-say at-lowest-ends at-enum-told.in_default.is)
     e2.given.0.0 (weights-say at-lowest-weight e2.given.1)
 
-lowest-repeat-requires : tie.Need-lowest-repeat-requires
+lowest-repeat-requires : tie.Need-lowest_repeat-requires
 lowest-repeat-requires c κs =
-    let at-enum-told = c.before.before.before in
-    let at-lowest-ends = at-enum-told.before.before in
+    let at-enum-told = c.before.before in
+    let at-lowest-ends = at-enum-told.before in
     let at-then1 = at-lowest-ends.before in
     let beginning = at-then1.before.before.before.before in
-    (omega arith, λ e l. flagged (graph beginning) (sizes at-then1) (ends-say at-lowest-ends at-enum-told.enum_told.given.1) e (omega arith))
+    (omega arith, λ e l. flagged (graph beginning) (sizes at-then1) (ends-say at-lowest-ends at-enum-told.in_default.is) e (omega arith))
 
-refused-item-requires-3 : tie.Need-refused-item-requires-3
+refused-item-requires-3 : tie.Need-refused_item-requires-in-At-lowest_repeat
 refused-item-requires-3 c κs =
     let e3 = c.before.e3 in
-    let at-lowest-repeat = c.before.before.before in
-    let at-then1 = at-lowest-repeat.before.before.before.before.before.before.before in
+    let at-lowest-repeat = c.before in
+    let at-then1 = at-lowest-repeat.before.before.before.before.before in
     let beginning = at-then1.before.before.before.before in
     among (graph beginning) (new_ends (graph beginning)) e3.given.0.0 (sizes at-then1) (ends-again at-lowest-repeat e3.given.1)
 
-returns-3 : tie.Need-returns-3
+returns-3 : tie.Need-returns-in-At-lowest_repeat
 returns-3 c =
     let e3 = c.before.before.e3 in
-    let at-lowest-repeat = c.before.before.before.before in
-    let at-enum-told2 = at-lowest-repeat.before in
-    let at-lowest-weight = at-enum-told2.before.before in
-    let at-enum-told = at-lowest-weight.before in
-    let at-lowest-ends = at-enum-told.before.before in
-    let at-then1 = at-lowest-ends.before in
-    let beginning = at-then1.before.before.before.before in
-    c.refused-item3.ensures
-    ∙ same-refused (graph beginning) (yields tt) (sizes at-then1) (ends-say at-lowest-ends at-enum-told.enum_told.given.1)
-    (weights-say at-lowest-weight at-enum-told2.enum-told2.given.1) e3.given.0.0 (ends-again at-lowest-repeat e3.given.1)
-
-returns-4 : tie.Need-returns-4
-returns-4 c =
     let at-lowest-repeat = c.before.before in
     let at-enum-told2 = at-lowest-repeat.before in
-    let at-lowest-weight = at-enum-told2.before.before in
+    let at-lowest-weight = at-enum-told2.before in
     let at-enum-told = at-lowest-weight.before in
-    let at-lowest-ends = at-enum-told.before.before in
+    let at-lowest-ends = at-enum-told.before in
     let at-then1 = at-lowest-ends.before in
     let beginning = at-then1.before.before.before.before in
-    none_refused (graph beginning) (yields tt) (sizes at-then1) (ends-say at-lowest-ends at-enum-told.enum_told.given.1)
-    (weights-say at-lowest-weight at-enum-told2.enum-told2.given.1) (ends-again at-lowest-repeat c.enum-told3.given.1)
+    c.refused_item-in-At-lowest_repeat.ensures
+    ∙ same-refused (graph beginning) (yields tt) (sizes at-then1) (ends-say at-lowest-ends at-enum-told.in_default.is)
+    (weights-say at-lowest-weight at-enum-told2.in_default-lowest_weight.is) e3.given.0.0 (ends-again at-lowest-repeat e3.given.1)
 
-returns-5 : tie.Need-returns-5
+returns-4 : tie.Need-returns-in_default-lowest_repeat
+returns-4 c =
+    let at-lowest-repeat = c.before in
+    let at-enum-told2 = at-lowest-repeat.before in
+    let at-lowest-weight = at-enum-told2.before in
+    let at-enum-told = at-lowest-weight.before in
+    let at-lowest-ends = at-enum-told.before in
+    let at-then1 = at-lowest-ends.before in
+    let beginning = at-then1.before.before.before.before in
+    none_refused (graph beginning) (yields tt) (sizes at-then1) (ends-say at-lowest-ends at-enum-told.in_default.is)
+    (weights-say at-lowest-weight at-enum-told2.in_default-lowest_weight.is) (ends-again at-lowest-repeat c.in_default-lowest_repeat.is)
+
+returns-5 : tie.Need-returns-else-sizes_in_range
 returns-5 c =
-    let sizes-in-range = c.before.before.sizes-in-range in
+    let sizes-in-range = c.sizes_in_range in
     let beginning = c.before.before.before.before.before in
     let g = graph beginning in
-    ap check_says c.refused.ensures ∙ sizes_refused g (yields tt) (sym sizes-in-range.ensures ∙ c.before.if1.false)
+    ap check_says c.refused.ensures ∙ sizes_refused g (yields tt) (sym sizes-in-range.ensures ∙ c.if-sizes_in_range.false)
 
-pub check-graph-spec : {M : Type 1} → statement M
-check-graph-spec =
+pub check_graph_spec : {M : Type 1} → statement M
+check_graph_spec =
     tie.close
     (tie.spec
     (λ c κs. search rules)

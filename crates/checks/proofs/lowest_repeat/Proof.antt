@@ -11,10 +11,10 @@ use Rattle.checks.proofs.Table.{seen_start, seen_flag, seen_note}
 use Rattle.checks.proofs.lowest_repeat.Statement.{statement}
 use Rattle.checks.proofs.lowest_repeat.Tie as tie
 
-abbrev invariant-loop : tie.invariant-loop
+abbrev invariant-loop : tie.invariant-loop-e
 invariant-loop row column flags₀ e₀ flags e = KeptBelow (length row) (λ k. not (joined_in row column k (get_or row k 0) (get_or column k 0))) e × Seen flags row column e
 
-abbrev decreases-loop : tie.decreases-loop
+abbrev decreases-loop : tie.decreases-loop-e
 decreases-loop row column flags₀ e₀ flags e = length row - e
 
 -- What noting the edge answers, and leaves.
@@ -23,7 +23,7 @@ module _ (c : tie.After-note invariant-loop decreases-loop) where
   place = c.before.before.before.before.before.before.before.before
 
   abbrev here : ℕ
-  here = c.before.before.before.before.before.loop.e
+  here = c.loop-e.e
 
   abbrev row : List ℕ
   row = place.args.row.now
@@ -32,46 +32,46 @@ module _ (c : tie.After-note invariant-loop decreases-loop) where
   column = place.args.column.now
 
   ends : Flagged (get_or row here 0) × Flagged (get_or column here 0)
-  ends = place.pre.1 here c.before.before.before.before.loop-test.true
+  ends = place.pre.1 here c.loop-e-test.true
 
   answer : c.note.result ≡ joined_in row column here (get_or row here 0) (get_or column here 0)
-  answer = c.note.ensures.0 ∙ seen_flag c.before.before.before.before.before.loop.invariant.1 ends.0 ends.1
+  answer = c.note.ensures.0 ∙ seen_flag c.loop-e.invariant.1 ends.0 ends.1
 
   noted : Seen c.note.new.0 row column (here + 1)
-  noted = seen_note c.before.before.before.before.before.loop.invariant.1 c.note.new.0 _ _ c.note.ensures.1 refl refl ends.0 ends.1
+  noted = seen_note c.loop-e.invariant.1 c.note.new.0 _ _ c.note.ensures.1 refl refl ends.0 ends.1
 
-loop-holds : tie.Need-loop-init invariant-loop decreases-loop
+loop-holds : tie.Need-loop-e-init invariant-loop decreases-loop
 loop-holds c = (kept_none, seen_start _ _)
 
-slice-aggregate-note : tie.Need-slice-aggregate-note invariant-loop decreases-loop
-slice-aggregate-note c = sym c.before.before.loop.invariant.1.long
+slice-aggregate-note : tie.Need-slice_bounds-note-end invariant-loop decreases-loop
+slice-aggregate-note c = sym c.loop-e.invariant.1.long
 
 note-requires : tie.Need-note-requires invariant-loop decreases-loop
 note-requires c κs =
     let at-loop-test = c.before.before.before in
     let at-loop = at-loop-test.before in
-    let pre = at-loop.before.before.before.requires in
-    (at-loop.loop.invariant.1.long, (pre.1 at-loop.loop.e at-loop-test.loop-test.true))
+    let pre = at-loop.requires in
+    (at-loop.loop-e.invariant.1.long, (pre.1 at-loop.loop-e.e at-loop-test.loop-e-test.true))
 
-returns : tie.Need-returns invariant-loop decreases-loop
+returns : tie.Need-returns-then-note invariant-loop decreases-loop
 returns c =
     let place = c.before.before in
     let at-loop-test = place.before.before.before.before in
-    let inv = at-loop-test.before.loop.invariant in
-    kept_broken inv.0 at-loop-test.loop-test.true (ap not (sym (answer place) ∙ c.if1.true))
+    let inv = at-loop-test.loop-e.invariant in
+    kept_broken inv.0 at-loop-test.loop-e-test.true (ap not (sym (answer place) ∙ c.if-note.true))
 
-loop-again : tie.Need-loop-preserved invariant-loop decreases-loop
+loop-again : tie.Need-loop-e-preserved invariant-loop decreases-loop
 loop-again c =
     let place = c.before.before in
     let at-loop-test = place.before.before.before.before in
-    let inv = at-loop-test.before.loop.invariant in
-    (kept_more inv.0 at-loop-test.loop-test.true (ap not (sym (answer place) ∙ c.if1.false)), noted place)
+    let inv = at-loop-test.loop-e.invariant in
+    (kept_more inv.0 at-loop-test.loop-e-test.true (ap not (sym (answer place) ∙ c.if-note.false)), noted place)
 
-returns-2 : tie.Need-returns-2 invariant-loop decreases-loop
-returns-2 c = kept_all c.before.loop.invariant.0 c.loop-test.false
+returns-2 : tie.Need-returns invariant-loop decreases-loop
+returns-2 c = kept_all c.loop-e.invariant.0 c.loop-e-test.false
 
-pub lowest-repeat-spec : {M : Type 1} → statement M
-lowest-repeat-spec =
+pub lowest_repeat_spec : {M : Type 1} → statement M
+lowest_repeat_spec =
     tie.close
     (tie.spec
     invariant-loop

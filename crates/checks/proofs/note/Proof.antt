@@ -8,9 +8,14 @@ use Rattle.checks.proofs.note.Tie as tie
 
 returns : tie.Need-returns
 returns c =
-    let flags = c.before.before.before.args.flags.now in
-    let is = c.before.flag_at.ensures.0 in
+    let flags = c.args.flags.now in
+    let is = c.flag_at-at.ensures.0 in
     (ap (λ k. eqb (get_or flags k 0) 1) is, ap (λ k. set flags k 1) is)
 
-pub note-spec : {M : Type 1} → statement M
-note-spec = tie.close (tie.spec (λ c κs. search rules) (λ c. search rules) (λ c. search rules) (λ c. search rules) returns)
+pub note_spec : {M : Type 1} → statement M
+note_spec = tie.close (tie.spec
+    (λ c κs. search rules)
+    (λ c. search rules)
+    (λ c. search rules)
+    (λ c. search rules)
+    returns)

@@ -9,8 +9,11 @@ use Rattle.checks.proofs.refused_item.Tie as tie
 
 returns : tie.Need-returns
 returns c =
-    let args = c.before.args in
+    let args = c.args in
     ap check_says c.refused.ensures ∙ ap (refuses args.fault) (add-one args.k)
 
-pub refused-item-spec : {M : Type 1} → statement M
-refused-item-spec = tie.close (tie.spec (λ c. search rules) (λ c κs. search rules) returns)
+pub refused_item_spec : {M : Type 1} → statement M
+refused_item_spec = tie.close (tie.spec
+    (λ c. search rules)
+    (λ c κs. search rules)
+    returns)

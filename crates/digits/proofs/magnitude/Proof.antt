@@ -3,28 +3,35 @@ use Rattle.digits.proofs.Signs.{sum_fits, negated_fits, below_casts, below_fits,
 use Rattle.digits.proofs.magnitude.Statement.{statement}
 use Rattle.digits.proofs.magnitude.Tie as tie
 
-add-result : tie.Need-overflow-add-result
-add-result c = sum_fits c.before.args.x c.before.ranges.x c.if1.true
+add-result : tie.Need-overflow_add-result
+add-result c = sum_fits c.args.x c.ranges.x c.if-x-lt0.true
 
-sub-result : tie.Need-overflow-sub-result
-sub-result c = negated_fits c.before.args.x c.before.ranges.x c.if1.true
+sub-result : tie.Need-overflow_sub-result
+sub-result c = negated_fits c.args.x c.ranges.x c.if-x-lt0.true
 
-cast-result : tie.Need-overflow-cast-result
-cast-result c = below_casts c.before.args.x c.before.ranges.x c.if1.true
+cast-result : tie.Need-overflow_cast-result
+cast-result c = below_casts c.args.x c.ranges.x c.if-x-lt0.true
 
-add-result-2 : tie.Need-overflow-add-result-2
-add-result-2 c = below_fits c.before.args.x c.before.ranges.x c.if1.true
+add-result-2 : tie.Need-overflow_add-result-then-x-lt0
+add-result-2 c = below_fits c.args.x c.ranges.x c.if-x-lt0.true
 
-cast-result-2 : tie.Need-overflow-cast-result-2
-cast-result-2 c = above_casts c.before.args.x c.before.ranges.x c.if1.false
+cast-result-2 : tie.Need-overflow_cast-result-else-x-lt0
+cast-result-2 c = above_casts c.args.x c.ranges.x c.if-x-lt0.false
 
-returns : tie.Need-returns
-returns c = magnitude_below c.before.args.x c.before.ranges.x c.if1.true
+returns : tie.Need-returns-then-x-lt0
+returns c = magnitude_below c.args.x c.ranges.x c.if-x-lt0.true
 
-returns-2 : tie.Need-returns-2
-returns-2 c = magnitude_above c.before.args.x c.before.ranges.x c.if1.false
+returns-2 : tie.Need-returns-else-x-lt0
+returns-2 c = magnitude_above c.args.x c.ranges.x c.if-x-lt0.false
 
-pub magnitude-spec : {M : Type 1} → statement M
-magnitude-spec =
+pub magnitude_spec : {M : Type 1} → statement M
+magnitude_spec =
     tie.close
-    (tie.spec add-result sub-result cast-result add-result-2 cast-result-2 returns returns-2)
+    (tie.spec
+    add-result
+    sub-result
+    cast-result
+    add-result-2
+    cast-result-2
+    returns
+    returns-2)

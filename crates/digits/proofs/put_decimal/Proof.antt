@@ -5,19 +5,19 @@ use Rattle.digits.proofs.Signs.{natural-put}
 use Rattle.digits.proofs.put_decimal.Statement.{statement}
 use Rattle.digits.proofs.put_decimal.Tie as tie
 
-add-result : tie.Need-overflow-add-result
+add-result : tie.Need-overflow_add-result
 add-result c =
     let s = c.before.before.before.before.before in
-    let p = natural-put s.args.out.now s.args.at s.args.n s.ranges.n.fits c.before.before.put-number.ensures in
-    omega (arith, p.1, s.requires, s.well-formed.0.0)
+    let p = natural-put s.args.out.now s.args.at s.args.n s.ranges.n.fits c.put_number.ensures in
+    omega (arith, p.1, s.requires, s.well_formed.0.0)
 
 returns : tie.Need-returns
 returns c =
     let s = c.before.before.before.before.before in
-    natural-put s.args.out.now s.args.at s.args.n s.ranges.n.fits c.before.before.put-number.ensures
+    natural-put s.args.out.now s.args.at s.args.n s.ranges.n.fits c.put_number.ensures
 
-pub put-decimal-spec : {M : Type 1} → statement M
-put-decimal-spec =
+pub put_decimal_spec : {M : Type 1} → statement M
+put_decimal_spec =
     tie.close
     (tie.spec
     (λ c. search rules)

@@ -7,30 +7,30 @@ use Rattle.digits.proofs.Signs.{negative_put, positive_put}
 use Rattle.digits.proofs.put_signed.Statement.{statement}
 use Rattle.digits.proofs.put_signed.Tie as tie
 
-put-decimal-requires : tie.Need-put-decimal-requires
-put-decimal-requires c κs = simp length-set (omega (arith, c.before.before.before.before.requires))
+put-decimal-requires : tie.Need-put_decimal-requires
+put-decimal-requires c κs = simp length-set (omega (arith, c.requires))
 
-same_length : tie.Need-same-length
-same_length c = c.before.before.put-decimal.auto.0 ∙ simp length-set
+same_length : tie.Need-shape_of-out-then-z-lt0
+same_length c = c.put_decimal.auto.0 ∙ simp length-set
 
-returns : tie.Need-returns
+returns : tie.Need-returns-then-z-lt0
 returns c =
     let m = c.before.before.before.before.before in
     let s = m.before.before in
-    negative_put s.args.out.now s.args.at s.args.z m.magnitude.result s.ranges.z s.requires m.magnitude.ensures
-    c.before.before.before.before.if1.true
-    c.before.before.put-decimal.ensures
+    negative_put s.args.out.now s.args.at s.args.z m.magnitude-n.result s.ranges.z s.requires m.magnitude-n.ensures
+    c.if-z-lt0.true
+    c.put_decimal.ensures
 
-returns-2 : tie.Need-returns-2
+returns-2 : tie.Need-returns-else-z-lt0
 returns-2 c =
     let m = c.before.before.before.before.before in
     let s = m.before.before in
-    positive_put s.args.out.now s.args.at s.args.z m.magnitude.result s.ranges.z s.requires m.magnitude.ensures
-    c.before.before.before.before.if1.false
-    c.before.before.put-decimal2.ensures
+    positive_put s.args.out.now s.args.at s.args.z m.magnitude-n.result s.ranges.z s.requires m.magnitude-n.ensures
+    c.if-z-lt0.false
+    c.put_decimal-else-z-lt0.ensures
 
-pub put-signed-spec : {M : Type 1} → statement M
-put-signed-spec =
+pub put_signed_spec : {M : Type 1} → statement M
+put_signed_spec =
     tie.close
     (tie.spec
     (λ c κs. search rules)

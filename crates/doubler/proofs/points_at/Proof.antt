@@ -13,7 +13,9 @@ returns : tie.Need-returns
 returns c =
     let s = c.before in
     let z = get_or s.args.prices.now s.args.k (pos 0) in
-    subst (λ n. (half_points (pos (n / 2)) ≡ z) × (n / 2 ≤ 1000000)) (sym c.natural-at.ensures) (in_points s.requires.1)
+    subst (λ n. (half_points (pos (n / 2)) ≡ z) × (n / 2 ≤ 1000000)) (sym c.natural_at.ensures) (in_points s.requires.1)
 
-pub points-at-spec : {M : Type 1} → statement M
-points-at-spec = tie.close (tie.spec (λ c κs. search rules) returns)
+pub points_at_spec : {M : Type 1} → statement M
+points_at_spec = tie.close (tie.spec
+    (λ c κs. search rules)
+    returns)

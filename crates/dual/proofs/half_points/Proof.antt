@@ -22,8 +22,10 @@ returns c =
     let start = c.before in
     let x = start.args.x in
     let is = back w64 x start.ranges.x.sfits in
-    let e = back w64 c.add.result c.add.type-inv ∙ c.add.ensures ∙ ap₂ ◌+ℤ◌ is is ∙ sym (two_times x) in
+    let e = back w64 c.add.result c.add.type_inv ∙ c.add.ensures ∙ ap₂ ◌+ℤ◌ is is ∙ sym (two_times x) in
     (e, twice-within x e)
 
-pub half-points-spec : {M : Type 1} → statement M
-half-points-spec = tie.close (tie.spec add-requires returns)
+pub half_points_spec : {M : Type 1} → statement M
+half_points_spec = tie.close (tie.spec
+    add-requires
+    returns)

@@ -1,6 +1,6 @@
 -- `arc_edge` tests the ends of an arc, and its cost, and gives its edge.
 use mathlib.Core.Path.{sym, ap, ◌∙◌}
-use borrow.Author.Tests.{not_true, not-false}
+use borrow.Author.Tests.{not-true, not-false}
 use mathlib.Core.Option.{some}
 use native.Mathlib.Omega.{arith}
 use lib.IntN.{neg_ℤ}
@@ -14,37 +14,37 @@ use borrow.Author.Rules.{rules}
 use Rattle.edge_reader.proofs.arc_edge.Statement.{statement}
 use Rattle.edge_reader.proofs.arc_edge.Tie as tie
 
-returns : tie.Need-returns
+returns : tie.Need-returns-then-not-ends_in_range
 returns c =
     let at_column = c.before.before in
-    let args = at_column.before.args in (
-      ends_out args.s args.source _ (neg_ℤ args.cost) (ap (λ k. some (args.source, k, neg_ℤ args.cost)) at_column.column-of.ensures)
-          c.before.ends-in-range.ensures (not_true _ c.if1.true),
+    let args = at_column.args in (
+      ends_out args.s args.source _ (neg_ℤ args.cost) (ap (λ k. some (args.source, k, neg_ℤ args.cost)) at_column.column_of-column.ensures)
+          c.ends_in_range.ensures (not-true _ c.if-not-ends_in_range.true),
       tt,
     )
 
-returns-2 : tie.Need-returns-2
+returns-2 : tie.Need-returns-then-not-weight_in_range
 returns-2 c =
     let at-if1 = c.before.before in
     let at-ends-in-range = at-if1.before in
     let at_column = at-ends-in-range.before in
     let start = at_column.before in (
       weight_out start.args.s start.args.source _ (neg_ℤ start.args.cost)
-          (ap (λ k. some (start.args.source, k, neg_ℤ start.args.cost)) at_column.column-of.ensures) at-ends-in-range.ends-in-range.ensures
-          (not-false _ at-if1.if1.false)
-          (c.before.weight-in-range.ensures ∙ ap weight_in_range (back w32 start.args.cost start.ranges.cost.sfits) ∙ weight_negated start.args.cost)
-          (not_true _ c.if2.true),
+          (ap (λ k. some (start.args.source, k, neg_ℤ start.args.cost)) at_column.column_of-column.ensures) at-ends-in-range.ends_in_range.ensures
+          (not-false _ at-if1.if-not-ends_in_range.false)
+          (c.weight_in_range.ensures ∙ ap weight_in_range (back w32 start.args.cost start.ranges.cost.sfits) ∙ weight_negated start.args.cost)
+          (not-true _ c.if-not-weight_in_range.true),
       tt,
     )
 
-weight-at-cost-requires : tie.Need-weight-at-cost-requires
+weight-at-cost-requires : tie.Need-weight_at_cost-requires
 weight-at-cost-requires c κs =
     let start = c.before.before.before.before.before in
     let is = back w32 start.args.cost start.ranges.cost.sfits in
-    let small = weight_hold start.args.cost (sym (ap weight_in_range is) ∙ sym c.before.weight-in-range.ensures ∙ not-false _ c.if2.false) in
+    let small = weight_hold start.args.cost (sym (ap weight_in_range is) ∙ sym c.weight_in_range.ensures ∙ not-false _ c.if-not-weight_in_range.false) in
     omega (arith, ap up is, ap dn is, small)
 
-returns-3 : tie.Need-returns-3
+returns-3 : tie.Need-returns
 returns-3 c =
     let at-weight-in-range = c.before.before in
     let at-if1 = at-weight-in-range.before in
@@ -52,14 +52,14 @@ returns-3 c =
     let at_column = at-ends-in-range.before in
     let start = at_column.before in
     edge_in start.args.s start.args.source _ (neg_ℤ start.args.cost)
-    (ap (λ k. some (start.args.source, k, neg_ℤ start.args.cost)) at_column.column-of.ensures) at-ends-in-range.ends-in-range.ensures
-    (not-false _ at-if1.if1.false)
-    (at-weight-in-range.weight-in-range.ensures ∙ ap weight_in_range (back w32 start.args.cost start.ranges.cost.sfits) ∙ weight_negated start.args.cost)
-    (not-false _ c.before.if2.false)
-    (back w32 c.weight-at-cost.result c.weight-at-cost.type-inv ∙ c.weight-at-cost.ensures ∙ ap neg_ℤ (back w32 start.args.cost start.ranges.cost.sfits))
+    (ap (λ k. some (start.args.source, k, neg_ℤ start.args.cost)) at_column.column_of-column.ensures) at-ends-in-range.ends_in_range.ensures
+    (not-false _ at-if1.if-not-ends_in_range.false)
+    (at-weight-in-range.weight_in_range.ensures ∙ ap weight_in_range (back w32 start.args.cost start.ranges.cost.sfits) ∙ weight_negated start.args.cost)
+    (not-false _ c.if-not-weight_in_range.false)
+    (back w32 c.weight_at_cost.result c.weight_at_cost.type_inv ∙ c.weight_at_cost.ensures ∙ ap neg_ℤ (back w32 start.args.cost start.ranges.cost.sfits))
 
-pub arc-edge-spec : {M : Type 1} → statement M
-arc-edge-spec =
+pub arc_edge_spec : {M : Type 1} → statement M
+arc_edge_spec =
     tie.close
     (tie.spec
     (λ c κs. search rules)

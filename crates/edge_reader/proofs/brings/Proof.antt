@@ -4,17 +4,22 @@ use borrow.Author.Rules.{rules}
 use Rattle.edge_reader.proofs.brings.Statement.{statement}
 use Rattle.edge_reader.proofs.brings.Tie as tie
 
-returns : tie.Need-returns
+returns : tie.Need-returns-in-Is
 returns c =
-    let pre = c.before.before.before.requires in
-    brings_edge (pre) c.before.edge.given.1
+    let pre = c.requires in
+    brings_edge (pre) c.in-Is.is
 
-returns-2 : tie.Need-returns-2
+returns-2 : tie.Need-returns-in-Refused
 returns-2 c =
-    let at-edge2 = c.before.before in
-    let args = at-edge2.before.before.args in
-    brings_fault args.next at-edge2.edge2.given.1 c.refused-at.ensures
+    let at-edge2 = c.before in
+    let args = at-edge2.args in
+    brings_fault args.next at-edge2.in-Refused.is c.refused_at.ensures
 
-pub brings-spec : {M : Type 1} → statement M
-brings-spec =
-    tie.close (tie.spec (λ c. search rules) (λ c. search rules) (λ c κs. search rules) returns returns-2)
+pub brings_spec : {M : Type 1} → statement M
+brings_spec =
+    tie.close (tie.spec
+    (λ c. search rules)
+    (λ c. search rules)
+    (λ c κs. search rules)
+    returns
+    returns-2)

@@ -1,6 +1,6 @@
 -- `coordinate_on` says what a later line does.
 use mathlib.Core.Path.{ap, ◌∙◌}
-use borrow.Author.Tests.{not_true, not-false}
+use borrow.Author.Tests.{not-true, not-false}
 use Rattle.graph.specs.Graph.{weight_in_range}
 use Rattle.layout.specs.Text.{words}
 use Rattle.lines.specs.Found.{part}
@@ -9,48 +9,48 @@ use borrow.Author.Rules.{rules}
 use Rattle.edge_reader.proofs.coordinate_on.Statement.{statement}
 use Rattle.edge_reader.proofs.coordinate_on.Tie as tie
 
-returns : tie.Need-returns
+returns : tie.Need-returns-in_default
 returns c =
-    let at-edge-words = c.before.before in
-    let args = at-edge-words.before.before.args in
-    (edge_bad args.rules args.field (words (part args.text.now args.start args.end)) at-edge-words.edge-words.ensures args.s c.enum_told.given.1, tt)
+    let at-edge-words = c.before in
+    let args = at-edge-words.args in
+    (edge_bad args.rules args.field (words (part args.text.now args.start args.end)) at-edge-words.edge_words.ensures args.s c.in_default.is, tt)
 
-returns-2 : tie.Need-returns-2
+returns-2 : tie.Need-returns-then-not-ends_in_range
 returns-2 c =
-    let at_row = c.before.before.before in
-    let at-edge-words = at_row.before.before in
-    let args = at-edge-words.before.before.args in
-    let read = edge_read args.rules args.field (words (part args.text.now args.start args.end)) at-edge-words.edge-words.ensures at_row.row.given.1 in
-    (ends_out args.s _ _ _ read c.before.ends-in-range.ensures (not_true _ c.if1.true), tt)
+    let at_row = c.before.before in
+    let at-edge-words = at_row.before in
+    let args = at-edge-words.args in
+    let read = edge_read args.rules args.field (words (part args.text.now args.start args.end)) at-edge-words.edge_words.ensures at_row.in-Is.is in
+    (ends_out args.s _ _ _ read c.ends_in_range.ensures (not-true _ c.if-not-ends_in_range.true), tt)
 
-returns-3 : tie.Need-returns-3
+returns-3 : tie.Need-returns-then-not-weight_in_range
 returns-3 c =
     let at-if1 = c.before.before in
     let at-ends-in-range = at-if1.before in
-    let at_row = at-ends-in-range.before.before in
-    let at-edge-words = at_row.before.before in
-    let args = at-edge-words.before.before.args in
-    let read = edge_read args.rules args.field (words (part args.text.now args.start args.end)) at-edge-words.edge-words.ensures at_row.row.given.1 in
-    let same = edge_back args.rules args.field (words (part args.text.now args.start args.end)) at-edge-words.edge-words.ensures at_row.row.given.1 in (
-      weight_out args.s _ _ _ read at-ends-in-range.ends-in-range.ensures (not-false _ at-if1.if1.false)
-          (c.before.weight-in-range.ensures ∙ ap weight_in_range same) (not_true _ c.if2.true),
+    let at_row = at-ends-in-range.before in
+    let at-edge-words = at_row.before in
+    let args = at-edge-words.args in
+    let read = edge_read args.rules args.field (words (part args.text.now args.start args.end)) at-edge-words.edge_words.ensures at_row.in-Is.is in
+    let same = edge_back args.rules args.field (words (part args.text.now args.start args.end)) at-edge-words.edge_words.ensures at_row.in-Is.is in (
+      weight_out args.s _ _ _ read at-ends-in-range.ends_in_range.ensures (not-false _ at-if1.if-not-ends_in_range.false)
+          (c.weight_in_range.ensures ∙ ap weight_in_range same) (not-true _ c.if-not-weight_in_range.true),
       tt,
     )
 
-returns-4 : tie.Need-returns-4
+returns-4 : tie.Need-returns
 returns-4 c =
     let at-if1 = c.before.before in
     let at-ends-in-range = at-if1.before in
-    let at_row = at-ends-in-range.before.before in
-    let at-edge-words = at_row.before.before in
-    let args = at-edge-words.before.before.args in
-    let read = edge_read args.rules args.field (words (part args.text.now args.start args.end)) at-edge-words.edge-words.ensures at_row.row.given.1 in
-    let same = edge_back args.rules args.field (words (part args.text.now args.start args.end)) at-edge-words.edge-words.ensures at_row.row.given.1 in
-    edge_in args.s _ _ _ read at-ends-in-range.ends-in-range.ensures (not-false _ at-if1.if1.false)
-    (c.before.weight-in-range.ensures ∙ ap weight_in_range same) (not-false _ c.if2.false) same
+    let at_row = at-ends-in-range.before in
+    let at-edge-words = at_row.before in
+    let args = at-edge-words.args in
+    let read = edge_read args.rules args.field (words (part args.text.now args.start args.end)) at-edge-words.edge_words.ensures at_row.in-Is.is in
+    let same = edge_back args.rules args.field (words (part args.text.now args.start args.end)) at-edge-words.edge_words.ensures at_row.in-Is.is in
+    edge_in args.s _ _ _ read at-ends-in-range.ends_in_range.ensures (not-false _ at-if1.if-not-ends_in_range.false)
+    (c.weight_in_range.ensures ∙ ap weight_in_range same) (not-false _ c.if-not-weight_in_range.false) same
 
-pub coordinate-on-spec : {M : Type 1} → statement M
-coordinate-on-spec =
+pub coordinate_on_spec : {M : Type 1} → statement M
+coordinate_on_spec =
     tie.close
     (tie.spec
     (λ c κs. search rules)

@@ -5,39 +5,39 @@ use borrow.Author.Rules.{rules}
 use Rattle.edge_reader.proofs.next_coordinate.Statement.{statement}
 use Rattle.edge_reader.proofs.next_coordinate.Tie as tie
 
-coordinate-on-requires : tie.Need-coordinate-on-requires
+coordinate-on-requires : tie.Need-coordinate_on-requires
 coordinate-on-requires c κs =
-    let found = (later_found c.before.before.before.later-line.ensures c.before.start.given.1).0 in
+    let found = (later_found c.later_line.ensures c.in-At.is).0 in
     (found.forward, found.ends)
 
 brings-requires : tie.Need-brings-requires
 brings-requires c κs =
-    let start = c.before.before.before.before.before.before in
-    weight_ranged start.args.s c.coordinate-on.result c.coordinate-on.ensures.1
+    let start = c.before.before.before.before in
+    weight_ranged start.args.s c.coordinate_on.result c.coordinate_on.ensures.1
 
-returns : tie.Need-returns
+returns : tie.Need-returns-in-Done
 returns c =
-    let at-later-line = c.before.before in
-    let args = at-later-line.before.before.args in
-    coordinates_end args.rules args.field at-later-line.later-line.ensures args.s c.enum_told.given.1
+    let at-later-line = c.before in
+    let args = at-later-line.args in
+    coordinates_end args.rules args.field at-later-line.later_line.ensures args.s c.in-Done.is
 
-returns-2 : tie.Need-returns-2
+returns-2 : tie.Need-returns-in-Refused
 returns-2 c =
-    let at-later-line = c.before.before.before in
-    let args = at-later-line.before.before.args in
-    coordinates_refused args.rules args.field at-later-line.later-line.ensures args.s c.before.r.given.1
+    let at-later-line = c.before in
+    let args = at-later-line.args in
+    coordinates_refused args.rules args.field at-later-line.later_line.ensures args.s c.in-Refused.is
 
-returns-3 : tie.Need-returns-3
+returns-3 : tie.Need-returns-in-At
 returns-3 c =
-    let at-start = c.before.before.before in
-    let at-later-line = at-start.before.before in
+    let at-start = c.before.before in
+    let at-later-line = at-start.before in
     let start = at-later-line.before.before in
     let args = start.args in
-    coordinates_line args.rules args.field at-later-line.later-line.ensures args.s at-start.start.given.1
-    c.before.coordinate-on.result c.before.coordinate-on.ensures.0 c.before.coordinate-on.ensures.1 c.brings.ensures
+    coordinates_line args.rules args.field at-later-line.later_line.ensures args.s at-start.in-At.is
+    c.coordinate_on.result c.coordinate_on.ensures.0 c.coordinate_on.ensures.1 c.brings.ensures
 
-pub next-coordinate-spec : {M : Type 1} → statement M
-next-coordinate-spec =
+pub next_coordinate_spec : {M : Type 1} → statement M
+next_coordinate_spec =
     tie.close
     (tie.spec
     (λ c κs. search rules)

@@ -6,22 +6,22 @@ use borrow.Author.Rules.{rules}
 use Rattle.edge_reader.proofs.next_edge.Statement.{statement}
 use Rattle.edge_reader.proofs.next_edge.Tie as tie
 
-returns : tie.Need-returns
+returns : tie.Need-returns-in-Coordinates
 returns c =
-    let at-what = c.before.before in
-    let args = at-what.before.before.before.args in
+    let at-what = c.before in
+    let args = at-what.args in
     λ row column weight right. subst
-    (λ what. NextAs what args.text.now args.c (graph_of args.s row column weight) c.next-coordinate.result) (sym at-what.what.given.1)
-    (c.next-coordinate.ensures row column weight right)
+    (λ what. NextAs what args.text.now args.c (graph_of args.s row column weight) c.next_coordinate.result) (sym at-what.in-Coordinates.is)
+    (c.next_coordinate.ensures row column weight right)
 
-returns-2 : tie.Need-returns-2
+returns-2 : tie.Need-returns-in-Assignment
 returns-2 c =
-    let args = c.before.before.before.before.args in
-    λ row column weight right. subst (λ what. NextAs what args.text.now args.c (graph_of args.s row column weight) c.next-arc.result)
-    (sym c.before.enum_told.given.1) (c.next-arc.ensures row column weight right)
+    let args = c.args in
+    λ row column weight right. subst (λ what. NextAs what args.text.now args.c (graph_of args.s row column weight) c.next_arc.result)
+    (sym c.in-Assignment.is) (c.next_arc.ensures row column weight right)
 
-pub next-edge-spec : {M : Type 1} → statement M
-next-edge-spec =
+pub next_edge_spec : {M : Type 1} → statement M
+next_edge_spec =
     tie.close
     (tie.spec
     (λ c. search rules)

@@ -13,150 +13,150 @@ use Rattle.edge_reader.proofs.Edges.{turn_below, turn_flagged, turn_repeats, tur
 use Rattle.edge_reader.proofs.read_edges.Statement.{statement}
 use Rattle.edge_reader.proofs.read_edges.Tie as tie
 
-abbrev invariant-loop : tie.invariant-loop
+abbrev invariant-loop : tie.invariant-loop-r
 invariant-loop text what s row₀ column₀ weight₀ seen₀ c₀ i₀ row column weight seen c i =
     EdgeTurn what s text (left what text c₀ (no_edges s)) (length row₀) (length column₀) (length weight₀) row column weight seen c i
 
-abbrev decreases-loop : tie.decreases-loop
+abbrev decreases-loop : tie.decreases-loop-r
 decreases-loop text what s row₀ column₀ weight₀ seen₀ c₀ i₀ row column weight seen c i = length text + 1 - c.at
 
-loop-holds : tie.Need-loop-init invariant-loop decreases-loop
+loop-holds : tie.Need-loop-r-init invariant-loop decreases-loop
 loop-holds c =
-    let pre = c.before.before.before.requires in
+    let pre = c.requires in
     turn_starts pre.0 pre.1.0 pre.1.1 _ (seen_start [] [])
 
-next-edge-requires : tie.Need-next-edge-requires invariant-loop decreases-loop
-next-edge-requires c κs = c.before.loop.invariant.reached
+next-edge-requires : tie.Need-next_edge-requires invariant-loop decreases-loop
+next-edge-requires c κs = c.loop-r.invariant.reached
 
-same_length : tie.Need-same-length invariant-loop decreases-loop
+same_length : tie.Need-shape_of-row-in-Done invariant-loop decreases-loop
 same_length c =
-    let loop = c.before.before.before.before.loop in
+    let loop = c.loop-r in
     loop.invariant.row_same
 
-same-length-2 : tie.Need-same-length-2 invariant-loop decreases-loop
+same-length-2 : tie.Need-shape_of-column-in-Done invariant-loop decreases-loop
 same-length-2 c =
-    let loop = c.before.before.before.before.loop in
+    let loop = c.loop-r in
     loop.invariant.column_same
 
-same-length-3 : tie.Need-same-length-3 invariant-loop decreases-loop
+same-length-3 : tie.Need-shape_of-weight-in-Done invariant-loop decreases-loop
 same-length-3 c =
-    let loop = c.before.before.before.before.loop in
+    let loop = c.loop-r in
     loop.invariant.weight_same
 
-returns : tie.Need-returns invariant-loop decreases-loop
+returns : tie.Need-returns-in-Done invariant-loop decreases-loop
 returns c =
-    let at-next-edge = c.before.before in
-    let loop = at-next-edge.before.before.loop in
-    turn_done loop.invariant at-next-edge.next_edge.ensures c.enum_told.given.1
+    let at-next-edge = c.before in
+    let loop = at-next-edge.loop-r in
+    turn_done loop.invariant at-next-edge.next_edge.ensures c.in-Done.is
 
-same-length-4 : tie.Need-same-length-4 invariant-loop decreases-loop
+same-length-4 : tie.Need-shape_of-row-in-Refused invariant-loop decreases-loop
 same-length-4 c =
-    let loop = c.before.before.before.before.before.loop in
+    let loop = c.loop-r in
     loop.invariant.row_same
 
-same-length-5 : tie.Need-same-length-5 invariant-loop decreases-loop
+same-length-5 : tie.Need-shape_of-column-in-Refused invariant-loop decreases-loop
 same-length-5 c =
-    let loop = c.before.before.before.before.before.loop in
+    let loop = c.loop-r in
     loop.invariant.column_same
 
-same-length-6 : tie.Need-same-length-6 invariant-loop decreases-loop
+same-length-6 : tie.Need-shape_of-weight-in-Refused invariant-loop decreases-loop
 same-length-6 c =
-    let loop = c.before.before.before.before.before.loop in
+    let loop = c.loop-r in
     loop.invariant.weight_same
 
-returns-2 : tie.Need-returns-2 invariant-loop decreases-loop
+returns-2 : tie.Need-returns-in-Refused invariant-loop decreases-loop
 returns-2 c =
-    let at-next-edge = c.before.before.before in
-    let loop = at-next-edge.before.before.loop in
-    turn_refused loop.invariant at-next-edge.next_edge.ensures c.before.r.given.1
+    let at-next-edge = c.before in
+    let loop = at-next-edge.loop-r in
+    turn_refused loop.invariant at-next-edge.next_edge.ensures c.in-Refused.is
 
-slice-aggregate-note : tie.Need-slice-aggregate-note invariant-loop decreases-loop
+slice-aggregate-note : tie.Need-slice_bounds-note-end invariant-loop decreases-loop
 slice-aggregate-note c =
-    let loop = c.before.before.before.before.before.before.loop in
+    let loop = c.loop-r in
     sym loop.invariant.flags.long
 
 note-requires : tie.Need-note-requires invariant-loop decreases-loop
 note-requires c κs =
-    let at-r2 = c.before.before in
-    let at-next-edge = at-r2.before.before in
-    let loop = at-next-edge.before.before.loop in
-    (loop.invariant.flags.long, turn_flagged loop.invariant at-next-edge.next_edge.ensures at-r2.r2.given.1)
+    let at-r2 = c.before in
+    let at-next-edge = at-r2.before in
+    let loop = at-next-edge.loop-r in
+    (loop.invariant.flags.long, turn_flagged loop.invariant at-next-edge.next_edge.ensures at-r2.in-Is.is)
 
-same-length-7 : tie.Need-same-length-7 invariant-loop decreases-loop
+same-length-7 : tie.Need-shape_of-row-then-note invariant-loop decreases-loop
 same-length-7 c =
-    let loop = c.before.before.before.before.before.before.before.before.before.before.loop in
+    let loop = c.loop-r in
     loop.invariant.row_same
 
-same-length-8 : tie.Need-same-length-8 invariant-loop decreases-loop
+same-length-8 : tie.Need-shape_of-column-then-note invariant-loop decreases-loop
 same-length-8 c =
-    let loop = c.before.before.before.before.before.before.before.before.before.before.loop in
+    let loop = c.loop-r in
     loop.invariant.column_same
 
-same-length-9 : tie.Need-same-length-9 invariant-loop decreases-loop
+same-length-9 : tie.Need-shape_of-weight-then-note invariant-loop decreases-loop
 same-length-9 c =
-    let loop = c.before.before.before.before.before.before.before.before.before.before.loop in
+    let loop = c.loop-r in
     loop.invariant.weight_same
 
-returns-3 : tie.Need-returns-3 invariant-loop decreases-loop
+returns-3 : tie.Need-returns-then-note invariant-loop decreases-loop
 returns-3 c =
     let at-note = c.before.before.before in
-    let at-r2 = at-note.before.before.before in
-    let at-next-edge = at-r2.before.before in
-    let loop = at-next-edge.before.before.loop in
-    turn_repeats loop.invariant at-next-edge.next_edge.ensures at-r2.r2.given.1 at-note.note.ensures.0 c.before.if1.true
-    c.refused-at.ensures
+    let at-r2 = at-note.before.before in
+    let at-next-edge = at-r2.before in
+    let loop = at-next-edge.loop-r in
+    turn_repeats loop.invariant at-next-edge.next_edge.ensures at-r2.in-Is.is at-note.note.ensures.0 c.if-note.true
+    c.refused_at.ensures
 
-slice-write-row : tie.Need-slice-write-row invariant-loop decreases-loop
+slice-write-row : tie.Need-bounds-row-i invariant-loop decreases-loop
 slice-write-row c =
-    let at-r2 = c.before.before.before.before.before in
-    let at-next-edge = at-r2.before.before in
-    let loop = at-next-edge.before.before.loop in
-    omega (arith, turn_below loop.invariant at-next-edge.next_edge.ensures at-r2.r2.given.1, row_length loop.invariant)
+    let at-r2 = c.before.before.before.before in
+    let at-next-edge = at-r2.before in
+    let loop = at-next-edge.loop-r in
+    omega (arith, turn_below loop.invariant at-next-edge.next_edge.ensures at-r2.in-Is.is, row_length loop.invariant)
 
-slice-write-column : tie.Need-slice-write-column invariant-loop decreases-loop
+slice-write-column : tie.Need-bounds-column-i invariant-loop decreases-loop
 slice-write-column c =
-    let at-r2 = c.before.before.before.before.before in
-    let at-next-edge = at-r2.before.before in
-    let loop = at-next-edge.before.before.loop in
-    omega (arith, turn_below loop.invariant at-next-edge.next_edge.ensures at-r2.r2.given.1, column_length loop.invariant)
+    let at-r2 = c.before.before.before.before in
+    let at-next-edge = at-r2.before in
+    let loop = at-next-edge.loop-r in
+    omega (arith, turn_below loop.invariant at-next-edge.next_edge.ensures at-r2.in-Is.is, column_length loop.invariant)
 
-slice-set-from-w : tie.Need-slice-set-from-w invariant-loop decreases-loop
+slice-set-from-w : tie.Need-bounds-weight-i invariant-loop decreases-loop
 slice-set-from-w c =
-    let at-r2 = c.before.before.before.before.before in
-    let at-next-edge = at-r2.before.before in
-    let loop = at-next-edge.before.before.loop in
-    omega (arith, turn_below loop.invariant at-next-edge.next_edge.ensures at-r2.r2.given.1, weight_length loop.invariant)
+    let at-r2 = c.before.before.before.before in
+    let at-next-edge = at-r2.before in
+    let loop = at-next-edge.loop-r in
+    omega (arith, turn_below loop.invariant at-next-edge.next_edge.ensures at-r2.in-Is.is, weight_length loop.invariant)
 
-add-i : tie.Need-overflow-add-i invariant-loop decreases-loop
+add-i : tie.Need-overflow_add-i invariant-loop decreases-loop
 add-i c =
-    let at-r2 = c.before.before.before.before.before in
-    let at-next-edge = at-r2.before.before in
-    let loop = at-next-edge.before.before.loop in
-    omega (arith, turn_below loop.invariant at-next-edge.next_edge.ensures at-r2.r2.given.1)
+    let at-r2 = c.before.before.before.before in
+    let at-next-edge = at-r2.before in
+    let loop = at-next-edge.loop-r in
+    omega (arith, turn_below loop.invariant at-next-edge.next_edge.ensures at-r2.in-Is.is)
 
-loop-less : tie.Need-loop-smaller invariant-loop decreases-loop
+loop-less : tie.Need-loop-r-smaller invariant-loop decreases-loop
 loop-less c =
-    let at-r2 = c.before.before.before.before.before in
-    let at-next-edge = at-r2.before.before in
-    let loop = at-next-edge.before.before.loop in
+    let at-r2 = c.before.before.before.before in
+    let at-next-edge = at-r2.before in
+    let loop = at-next-edge.loop-r in
     omega (
       arith,
-      (turn_next loop.invariant at-next-edge.next_edge.ensures at-r2.r2.given.1).onward,
+      (turn_next loop.invariant at-next-edge.next_edge.ensures at-r2.in-Is.is).onward,
       (turn_next loop.invariant
-          at-next-edge.next_edge.ensures at-r2.r2.given.1).reached.reach,
+          at-next-edge.next_edge.ensures at-r2.in-Is.is).reached.reach,
     )
 
-loop-again : tie.Need-loop-preserved invariant-loop decreases-loop
+loop-again : tie.Need-loop-r-preserved invariant-loop decreases-loop
 loop-again c =
     let at-note = c.before.before in
-    let at-r2 = at-note.before.before.before in
-    let at-next-edge = at-r2.before.before in
-    let loop = at-next-edge.before.before.loop in
-    turn_takes loop.invariant at-next-edge.next_edge.ensures at-r2.r2.given.1 at-note.note.ensures.0 c.if1.false _
+    let at-r2 = at-note.before.before in
+    let at-next-edge = at-r2.before in
+    let loop = at-next-edge.loop-r in
+    turn_takes loop.invariant at-next-edge.next_edge.ensures at-r2.in-Is.is at-note.note.ensures.0 c.if-note.false _
     at-note.note.ensures.1
 
-pub read-edges-spec : {M : Type 1} → statement M
-read-edges-spec =
+pub read_edges_spec : {M : Type 1} → statement M
+read_edges_spec =
     tie.close
     (tie.spec
     invariant-loop

@@ -5,44 +5,44 @@ use borrow.Author.Rules.{rules}
 use Rattle.edge_reader.proofs.wanted_arc.Statement.{statement}
 use Rattle.edge_reader.proofs.wanted_arc.Tie as tie
 
-returns : tie.Need-returns
+returns : tie.Need-returns-then-more
 returns c =
-    let at_source = c.before.before.before in
-    let at-entry-on = at_source.before.before in
-    let args = at-entry-on.before.before.args in (
-      arc_taken args.line.now at-entry-on.entry-on.ensures args.s args.more at_source.source.given.1 c.before.if1.true
-          c.arc-edge.result (cost-back args.line.now at-entry-on.entry-on.ensures args.s args.more at_source.source.given.1)
-          c.arc-edge.ensures.0,
-      (c.arc-edge.ensures.1, wanted_all c.before.if1.true c.arc-edge.result),
+    let at_source = c.before.before in
+    let at-entry-on = at_source.before in
+    let args = at-entry-on.args in (
+      arc_taken args.line.now at-entry-on.entry_on.ensures args.s args.more at_source.in-Arc.is c.if-more.true
+          c.arc_edge.result (cost-back args.line.now at-entry-on.entry_on.ensures args.s args.more at_source.in-Arc.is)
+          c.arc_edge.ensures.0,
+      (c.arc_edge.ensures.1, wanted_all c.if-more.true c.arc_edge.result),
     )
 
-returns-2 : tie.Need-returns-2
+returns-2 : tie.Need-returns-else-more
 returns-2 c =
-    let at_source = c.before.before in
-    let at-entry-on = at_source.before.before in
-    let args = at-entry-on.before.before.args in
-    (arc_surplus args.line.now at-entry-on.entry-on.ensures args.s args.more at_source.source.given.1 c.if1.false, (tt, tt))
+    let at_source = c.before in
+    let at-entry-on = at_source.before in
+    let args = at-entry-on.args in
+    (arc_surplus args.line.now at-entry-on.entry_on.ensures args.s args.more at_source.in-Arc.is c.if-more.false, (tt, tt))
 
-returns-3 : tie.Need-returns-3
+returns-3 : tie.Need-returns-in-Problem
 returns-3 c =
-    let at-entry-on = c.before.before.before in
-    let args = at-entry-on.before.before.args in
-    (problem_out args.line.now at-entry-on.entry-on.ensures args.s args.more c.before.nodes.given.1, (tt, tt))
+    let at-entry-on = c.before in
+    let args = at-entry-on.args in
+    (problem_out args.line.now at-entry-on.entry_on.ensures args.s args.more c.in-Problem.is, (tt, tt))
 
-returns-4 : tie.Need-returns-4
+returns-4 : tie.Need-returns-in-Source
 returns-4 c =
-    let at-entry-on = c.before.before.before in
-    let args = at-entry-on.before.before.args in
-    (source_out args.line.now at-entry-on.entry-on.ensures args.s args.more c.before.node.given.1, (tt, tt))
+    let at-entry-on = c.before in
+    let args = at-entry-on.args in
+    (source_out args.line.now at-entry-on.entry_on.ensures args.s args.more c.in-Source.is, (tt, tt))
 
-returns-5 : tie.Need-returns-5
+returns-5 : tie.Need-returns-in-Bad
 returns-5 c =
-    let at-entry-on = c.before.before in
-    let args = at-entry-on.before.before.args in
-    (bad_out args.line.now at-entry-on.entry-on.ensures args.s args.more c.enum_told.given.1, (tt, tt))
+    let at-entry-on = c.before in
+    let args = at-entry-on.args in
+    (bad_out args.line.now at-entry-on.entry_on.ensures args.s args.more c.in-Bad.is, (tt, tt))
 
-pub wanted-arc-spec : {M : Type 1} → statement M
-wanted-arc-spec =
+pub wanted_arc_spec : {M : Type 1} → statement M
+wanted_arc_spec =
     tie.close
     (tie.spec
     (λ c κs. search rules)

@@ -5,44 +5,44 @@ use borrow.Author.Rules.{rules}
 use Rattle.entries.proofs.problem_on.Statement.{statement}
 use Rattle.entries.proofs.problem_on.Tie as tie
 
-returns : tie.Need-returns
+returns : tie.Need-returns-in_default
 returns c =
-    let at-first-word = c.before.before in
-    let args = at-first-word.before.before.before.args in
-    problem_other args.rest.now at-first-word.first-word.ensures c.enum_told.given.1
+    let at-first-word = c.before in
+    let args = at-first-word.args in
+    problem_other args.rest.now at-first-word.first_word.ensures c.in_default.is
 
-sub-two-naturals : tie.Need-overflow-sub-two-naturals
+sub-two-naturals : tie.Need-slice_bounds-two_naturals-count
 sub-two-naturals c =
-    let at-first-word = c.before.before.before in
-    let args = at-first-word.before.before.before.args in
-    (first_found args.rest.now at-first-word.first-word.ensures c.before.at.given.1).inside
+    let at-first-word = c.before in
+    let args = at-first-word.args in
+    (first_found args.rest.now at-first-word.first_word.ensures c.in-After.is).inside
 
-part-two-naturals-start : tie.Need-slice-bounds-two-naturals-start
+part-two-naturals-start : tie.Need-slice_bounds-two_naturals-start
 part-two-naturals-start c =
-    let at-first-word = c.before.before.before in
-    let args = at-first-word.before.before.before.args in
-    (first_found args.rest.now at-first-word.first-word.ensures c.before.at.given.1).inside
+    let at-first-word = c.before in
+    let args = at-first-word.args in
+    (first_found args.rest.now at-first-word.first_word.ensures c.in-After.is).inside
 
-returns-2 : tie.Need-returns-2
+returns-2 : tie.Need-returns-in_default-two_naturals
 returns-2 c =
-    let at-two-naturals = c.before.before in
-    let at_at = at-two-naturals.before.before.before in
-    let at-first-word = at_at.before.before in
-    let args = at-first-word.before.before.before.args in
-    problem_as args.rest.now at-first-word.first-word.ensures at_at.at.given.1 at-two-naturals.two-naturals.ensures Pair.Bad
-    c.enum-told2.given.1
+    let at-two-naturals = c.before in
+    let at_at = at-two-naturals.before.before in
+    let at-first-word = at_at.before in
+    let args = at-first-word.args in
+    problem_as args.rest.now at-first-word.first_word.ensures at_at.in-After.is at-two-naturals.two_naturals.ensures Pair.Bad
+    c.in_default-two_naturals.is
 
-returns-3 : tie.Need-returns-3
+returns-3 : tie.Need-returns
 returns-3 c =
-    let at-two-naturals = c.before.before.before in
-    let at_at = at-two-naturals.before.before.before in
-    let at-first-word = at_at.before.before in
-    let args = at-first-word.before.before.before.args in
-    problem_as args.rest.now at-first-word.first-word.ensures at_at.at.given.1 at-two-naturals.two-naturals.ensures (Pair.Is _ _)
-    c.before.nodes.given.1
+    let at-two-naturals = c.before in
+    let at_at = at-two-naturals.before.before in
+    let at-first-word = at_at.before in
+    let args = at-first-word.args in
+    problem_as args.rest.now at-first-word.first_word.ensures at_at.in-After.is at-two-naturals.two_naturals.ensures (Pair.Is _ _)
+    c.in-Is.is
 
-pub problem-on-spec : {M : Type 1} → statement M
-problem-on-spec =
+pub problem_on_spec : {M : Type 1} → statement M
+problem_on_spec =
     tie.close
     (tie.spec
     (λ c. search rules)

@@ -9,12 +9,12 @@ use borrow.Author.Rules.{rules}
 use Rattle.exits.proofs.near_exit.Statement.{statement}
 use Rattle.exits.proofs.near_exit.Tie as tie
 
-add-result : tie.Need-overflow-add-result
+add-result : tie.Need-overflow_add-result
 add-result c =
     let start = c.before in
     ⊎_elim (λ h. omega (arith, h.1, start.requires.1)) (λ h. omega (arith, h.1, start.requires.1)) (open_or_shut start.args.least start.args.used c.pick.ensures)
 
-sub-result : tie.Need-overflow-sub-result
+sub-result : tie.Need-overflow_sub-result
 sub-result c =
     let start = c.before in
     ⊎_elim (λ h. omega (arith, h.1, start.requires.0 h.0)) (λ h. omega (arith, h.1, start.requires.1)) (open_or_shut start.args.least start.args.used c.pick.ensures)
@@ -26,8 +26,8 @@ returns c =
       ⊎_elim (λ h. omega (arith, h.1, start.requires.1)) (λ h. omega (arith, h.1, start.requires.1)) (open_or_shut start.args.least start.args.used c.pick.ensures),
     )
 
-pub near-exit-spec : {M : Type 1} → statement M
-near-exit-spec =
+pub near_exit_spec : {M : Type 1} → statement M
+near_exit_spec =
     tie.close
     (tie.spec
     (λ c κs. search rules)

@@ -5,8 +5,8 @@ use lib.Seq.{length-take-le}
 use Rattle.files.proofs.write.Statement.{statement}
 use Rattle.files.proofs.write.Tie as tie
 
-slice-aggregate-write-all : tie.Need-slice-aggregate-write-all
-slice-aggregate-write-all c = sym (length-take-le _ _ c.before.before.requires)
+slice-aggregate-write-all : tie.Need-slice_bounds-write_all-end
+slice-aggregate-write-all c = sym (length-take-le _ _ c.requires)
 
 pub write_spec : {M : Type 1} → statement M
 write_spec =

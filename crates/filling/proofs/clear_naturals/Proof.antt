@@ -8,29 +8,29 @@ use Rattle.filling.proofs.Setting.{Filling, fill_none, fill_more, fill_all}
 use Rattle.filling.proofs.clear_naturals.Statement.{statement}
 use Rattle.filling.proofs.clear_naturals.Tie as tie
 
-abbrev invariant-loop : tie.invariant-loop
+abbrev invariant-loop : tie.invariant-loop-k
 invariant-loop out₀ k₀ out k = Filling 0 (λ j x. x ≡ 0) out₀ out k
 
-abbrev decreases-loop : tie.decreases-loop
+abbrev decreases-loop : tie.decreases-loop-k
 decreases-loop out₀ k₀ out k = length out₀ - k
 
-loop-holds : tie.Need-loop-init invariant-loop decreases-loop
+loop-holds : tie.Need-loop-k-init invariant-loop decreases-loop
 loop-holds c = fill_none
 
-loop-less : tie.Need-loop-smaller invariant-loop decreases-loop
-loop-less c = omega (arith, c.before.loop.invariant.long)
+loop-less : tie.Need-loop-k-smaller invariant-loop decreases-loop
+loop-less c = omega (arith, c.loop-k.invariant.long)
 
-loop-again : tie.Need-loop-preserved invariant-loop decreases-loop
-loop-again c = fill_more _ c.before.loop.invariant c.loop-test.true refl
+loop-again : tie.Need-loop-k-preserved invariant-loop decreases-loop
+loop-again c = fill_more _ c.loop-k.invariant c.loop-k-test.true refl
 
-same_length : tie.Need-same-length invariant-loop decreases-loop
-same_length c = c.before.loop.invariant.long
+same_length : tie.Need-shape_of-out invariant-loop decreases-loop
+same_length c = c.loop-k.invariant.long
 
 returns : tie.Need-returns invariant-loop decreases-loop
-returns c = fill_all c.before.loop.invariant c.loop-test.false
+returns c = fill_all c.loop-k.invariant c.loop-k-test.false
 
-pub clear-naturals-spec : {M : Type 1} → statement M
-clear-naturals-spec =
+pub clear_naturals_spec : {M : Type 1} → statement M
+clear_naturals_spec =
     tie.close
     (tie.spec
     invariant-loop

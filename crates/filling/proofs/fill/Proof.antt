@@ -11,25 +11,25 @@ use Rattle.filling.proofs.Setting.{Filling, fill_none, fill_more, fill_all}
 use Rattle.filling.proofs.fill.Statement.{statement}
 use Rattle.filling.proofs.fill.Tie as tie
 
-abbrev invariant-loop : tie.invariant-loop
+abbrev invariant-loop : tie.invariant-loop-i
 invariant-loop out₀ k i₀ out i = Filling (pos 0) (λ j v. v ≡ to_z w32 k) out₀ out i
 
-abbrev decreases-loop : tie.decreases-loop
+abbrev decreases-loop : tie.decreases-loop-i
 decreases-loop out₀ k i₀ out i = length out₀ - i
 
-loop-holds : tie.Need-loop-init invariant-loop decreases-loop
+loop-holds : tie.Need-loop-i-init invariant-loop decreases-loop
 loop-holds c = fill_none
 
-loop-again : tie.Need-loop-preserved invariant-loop decreases-loop
-loop-again c = fill_more _ c.before.loop.invariant c.loop-test.true refl
+loop-again : tie.Need-loop-i-preserved invariant-loop decreases-loop
+loop-again c = fill_more _ c.loop-i.invariant c.loop-i-test.true refl
 
-same_length : tie.Need-same-length invariant-loop decreases-loop
-same_length c = c.before.loop.invariant.long
+same_length : tie.Need-shape_of-out invariant-loop decreases-loop
+same_length c = c.loop-i.invariant.long
 
 returns : tie.Need-returns invariant-loop decreases-loop
 returns c =
     let start = c.before.before in
-    fill_all c.before.loop.invariant c.loop-test.false ∙ ap (replicate (length start.args.out.now)) (to_z-of_z w32 start.args.k start.ranges.k)
+    fill_all c.loop-i.invariant c.loop-i-test.false ∙ ap (replicate (length start.args.out.now)) (to_z-of_z w32 start.args.k start.ranges.k)
 
 pub fill_spec : {M : Type 1} → statement M
 fill_spec =

@@ -12,33 +12,33 @@ use Rattle.general_pricer.proofs.check_general.Tie as tie
 abbrev graph : tie.Start → Graph
 graph s = graph_of s.args.s s.args.row.now s.args.column.now s.args.weight.now
 
-abbrev begun : tie.After-both → tie.Start
+abbrev begun : tie.After-both-others → tie.Start
 begun c = c.before.before.before.before.before
 
 -- The lengths that the graph's are tested with.
-told : (c : tie.After-both) →
+told : (c : tie.After-both-others) →
     let s = begun c in
-    c.both.result ≡ (eqb s.args.vertex (vertices (graph s)) && eqb s.args.edge s.args.s.edges)
+    c.both-others.result ≡ (eqb s.args.vertex (vertices (graph s)) && eqb s.args.edge s.args.s.edges)
 told c =
     let s = begun c in
-    c.both.ensures ∙ ap (λ n. eqb s.args.vertex n && eqb s.args.edge s.args.s.edges) c.before.before.vertex-count.ensures
+    c.both-others.ensures ∙ ap (λ n. eqb s.args.vertex n && eqb s.args.edge s.args.s.edges) c.vertex_count-n.ensures
 
-returns : tie.Need-returns
+returns : tie.Need-returns-in-Refused
 returns c =
-    let tests = c.before.before.before in
+    let tests = c.before in
     let s = begun tests.before in
-    bounded_refused (graph s) s.args.bound.now s.args.vertex s.args.edge (told tests.before) tests.check-bounded.ensures c.before.r.given.1
+    bounded_refused (graph s) s.args.bound.now s.args.vertex s.args.edge (told tests.before) tests.check_bounded.ensures c.in-Refused.is
 
-returns-2 : tie.Need-returns-2
+returns-2 : tie.Need-returns
 returns-2 c =
     let passed = c.before.before in
-    let tests = passed.before.before in
+    let tests = passed.before in
     let s = begun tests.before in
-    doubled-last (graph s) s.args.bound.now s.args.vertex s.args.edge (told tests.before) tests.check-bounded.ensures
-    passed.enum_told.given.1 c.before.can_double.ensures c.check-once.ensures
+    doubled-last (graph s) s.args.bound.now s.args.vertex s.args.edge (told tests.before) tests.check_bounded.ensures
+    passed.in_default.is c.can_double.ensures c.check_once-last.ensures
 
-pub check-general-spec : {M : Type 1} → statement M
-check-general-spec =
+pub check_general_spec : {M : Type 1} → statement M
+check_general_spec =
     tie.close
     (tie.spec
     (λ c κs. search rules)

@@ -15,43 +15,43 @@ abbrev graph : tie.Start → Graph
 graph s = graph_of s.args.s s.args.row.now s.args.column.now s.args.weight.now
 
 -- When both outputs are cleared: what the tests answered before, and the start.
-abbrev first : tie.After-clear-integers2 → tie.After-clear-integers
+abbrev first : tie.After-clear_integers-2 → tie.After-clear_integers
 first c = c.before.before.before
 
-abbrev tested : tie.After-clear-integers2 → tie.After-check-general
+abbrev tested : tie.After-clear_integers-2 → tie.After-check_general-check
 tested c = (first c).before.before
 
-abbrev begun : tie.After-clear-integers2 → tie.Start
+abbrev begun : tie.After-clear_integers-2 → tie.Start
 begun c = (tested c).before.before.before
 
-returns : tie.Need-returns
+returns : tie.Need-returns-in-Refused
 returns c =
-    let cleared = c.before.before.before.before in
-    let says = sym (ap check_says c.before.check.given.1) ∙ (tested cleared).check-general.ensures in
-    (ap told says, left-refused says (first cleared).clear-integers.ensures cleared.clear-integers2.ensures)
+    let cleared = c.before.before in
+    let says = sym (ap check_says c.in-Refused.is) ∙ (tested cleared).check_general-check.ensures in
+    (ap told says, left-refused says (first cleared).clear_integers.ensures cleared.clear_integers-2.ensures)
 
-price-doubled-requires : tie.Need-price-doubled-requires
+price-doubled-requires : tie.Need-price_doubled-requires
 price-doubled-requires c κs =
-    let cleared = c.before.before.before.before.before in
+    let cleared = c.before.before.before.before in
     let s = begun cleared in
     let a = s.args in
-    let says = sym (tested cleared).check-general.ensures ∙ ap check_says c.before.before.enum_told.given.1 in
+    let says = sym (tested cleared).check_general-check.ensures ∙ ap check_says c.in_default.is in
     let P = general-passed (graph s) a.bound.now (length a.vertex-price.now) (length a.edge-price.now) says in
-    (P.doublable, (P.bounded, ((first cleared).clear-integers.auto.0 ∙ P.vertex_long, cleared.clear-integers2.auto.0 ∙ P.edge_long)))
+    (P.doublable, (P.bounded, ((first cleared).clear_integers.auto.0 ∙ P.vertex_long, cleared.clear_integers-2.auto.0 ∙ P.edge_long)))
 
-returns-2 : tie.Need-returns-2
+returns-2 : tie.Need-returns
 returns-2 c =
     let passed = c.before.before.before.before.before in
-    let cleared = passed.before.before.before in
-    let says = sym (tested cleared).check-general.ensures ∙ ap check_says passed.enum_told.given.1 in
-    let priced = c.before.before.price-doubled in
+    let cleared = passed.before.before in
+    let says = sym (tested cleared).check_general-check.ensures ∙ ap check_says passed.in_default.is in
+    let priced = c.price_doubled in
     let kept = priced.auto.1.1.1.1.1 in (
       ap told (sym says),
-      left-priced says priced.ensures (kept.0 ∙ (first cleared).clear-integers.auto.0) (kept.1.0 ∙ cleared.clear-integers2.auto.0),
+      left-priced says priced.ensures (kept.0 ∙ (first cleared).clear_integers.auto.0) (kept.1.0 ∙ cleared.clear_integers-2.auto.0),
     )
 
-pub price-general-spec : {M : Type 1} → statement M
-price-general-spec =
+pub price_general_spec : {M : Type 1} → statement M
+price_general_spec =
     tie.close
     (tie.spec
     (λ c κs. search rules)

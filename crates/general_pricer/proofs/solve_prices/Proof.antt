@@ -9,17 +9,17 @@ use Rattle.general_pricer.proofs.solve_prices.Statement.{statement}
 use Rattle.general_pricer.proofs.solve_prices.Tie as tie
 
 -- The array has room for the index.
-room : (c : tie.After-fill-index) → c.before.before.index-numbers.result ≤ length c.fill-index.new.1.1.1.0
+room : (c : tie.After-fill_index) → c.index_numbers-k.result ≤ length c.fill_index.new.1.1.1.0
 room c =
     let counted = c.before.before in
-    let sizes = counted.before.before.before.before.requires.0.passed.sound.sizes in
-    omega (arith, counted.index-numbers.ensures, sizes.order, sizes.few, c.fill-index.auto.1.1.1.0)
+    let sizes = counted.requires.0.passed.sound.sizes in
+    omega (arith, counted.index_numbers-k.ensures, sizes.order, sizes.few, c.fill_index.auto.1.1.1.0)
 
-slice-aggregate-optimise : tie.Need-slice-aggregate-optimise
-slice-aggregate-optimise c = let filled = c.before.before in first_long _ filled.fill-index.new.1.1.1.0 (room filled)
+slice-aggregate-optimise : tie.Need-slice_bounds-optimise-end
+slice-aggregate-optimise c = let filled = c.before.before in first_long _ filled.fill_index.new.1.1.1.0 (room filled)
 
-slice-aggregate-optimise-2 : tie.Need-slice-aggregate-optimise-2
-slice-aggregate-optimise-2 c = zeros-lent 0 1024 c.before.before.before.before.before.before.before.before.before.requires.0.passed.sound.sizes.few
+slice-aggregate-optimise-2 : tie.Need-slice_bounds-optimise-end-2
+slice-aggregate-optimise-2 c = zeros-lent 0 1024 c.requires.0.passed.sound.sizes.few
 
 optimise-requires : tie.Need-optimise-requires
 optimise-requires c κs =
@@ -30,14 +30,14 @@ optimise-requires c κs =
     let sound = P.0.passed.sound in (
       P.0,
       (
-        index_first a.s a.row.now a.column.now a.weight.now filled.fill-index.new.1.1.1.0 sound
-            c.before.before.before.before.before.before.before.before.index-numbers.ensures (room filled) filled.fill-index.ensures,
+        index_first a.s a.row.now a.column.now a.weight.now filled.fill_index.new.1.1.1.0 sound
+            c.index_numbers-k.ensures (room filled) filled.fill_index.ensures,
         (P.1.0, ((P.1.1.0, P.1.1.1, sound.sizes.few), zeros-first 0 1024 sound.sizes.few)),
       ),
     )
 
-pub solve-prices-spec : {M : Type 1} → statement M
-solve-prices-spec =
+pub solve_prices_spec : {M : Type 1} → statement M
+solve_prices_spec =
     tie.close
     (tie.spec
     (λ c. search rules)

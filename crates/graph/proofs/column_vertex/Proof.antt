@@ -5,14 +5,14 @@ use borrow.Author.Rules.{rules}
 use Rattle.graph.proofs.column_vertex.Statement.{statement}
 use Rattle.graph.proofs.column_vertex.Tie as tie
 
-returns : tie.Need-returns
-returns c = let args = c.before.before.before.args in sym (ap (λ k. column_vertex k args.s.rows args.c) c.before.enum_told.given.1)
+returns : tie.Need-returns-in-Bipartite
+returns c = let args = c.args in sym (ap (λ k. column_vertex k args.s.rows args.c) c.in-Bipartite.is)
 
-returns-2 : tie.Need-returns-2
-returns-2 c = let args = c.before.before.args in sym (ap (λ k. column_vertex k args.s.rows args.c) c.enum-told2.given.1)
+returns-2 : tie.Need-returns-in-General
+returns-2 c = let args = c.args in sym (ap (λ k. column_vertex k args.s.rows args.c) c.in-General.is)
 
-pub column-vertex-spec : {M : Type 1} → statement M
-column-vertex-spec =
+pub column_vertex_spec : {M : Type 1} → statement M
+column_vertex_spec =
     tie.close
     (tie.spec
     (λ c. search rules)

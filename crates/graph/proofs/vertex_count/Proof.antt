@@ -5,16 +5,16 @@ use borrow.Author.Rules.{rules}
 use Rattle.graph.proofs.vertex_count.Statement.{statement}
 use Rattle.graph.proofs.vertex_count.Tie as tie
 
-enum_told : tie.Need-enum-told
+enum_told : tie.Need-enum_told-1
 enum_told c = search rules
 
-returns : tie.Need-returns
+returns : tie.Need-returns-in-Bipartite
 returns c =
     let enum_told = c.before.before.enum_told in
-    let s = c.before.before.before.before.args.s in sym (ap (λ k. vertices_of k s.rows s.columns) enum_told.given.1)
+    let s = c.args.s in sym (ap (λ k. vertices_of k s.rows s.columns) enum_told.given.1)
 
-pub vertex-count-spec : {M : Type 1} → statement M
-vertex-count-spec =
+pub vertex_count_spec : {M : Type 1} → statement M
+vertex_count_spec =
     tie.close
     (tie.spec
     enum_told

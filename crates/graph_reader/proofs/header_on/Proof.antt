@@ -6,20 +6,20 @@ use Rattle.headers.specs.Headers.{kind_told}
 use Rattle.graph_reader.proofs.header_on.Statement.{statement}
 use Rattle.graph_reader.proofs.header_on.Tie as tie
 
-returns : tie.Need-returns
+returns : tie.Need-returns-in-Integer
 returns c =
     let at-enum-told = c.before.before in
-    let args = at-enum-told.before.before.before.args in
-    c.header-kind.ensures ∙ ap (λ f. kind_told (field_word f) args.line.now) (sym at-enum-told.enum_told.given.1)
+    let args = at-enum-told.args in
+    c.header_kind.ensures ∙ ap (λ f. kind_told (field_word f) args.line.now) (sym at-enum-told.in-Integer.is)
 
-returns-2 : tie.Need-returns-2
+returns-2 : tie.Need-returns-in-Pattern
 returns-2 c =
     let at-enum-told2 = c.before.before in
-    let args = at-enum-told2.before.before.before.args in
-    c.header-kind2.ensures ∙ ap (λ f. kind_told (field_word f) args.line.now) (sym at-enum-told2.enum-told2.given.1)
+    let args = at-enum-told2.args in
+    c.header_kind-in-Pattern.ensures ∙ ap (λ f. kind_told (field_word f) args.line.now) (sym at-enum-told2.in-Pattern.is)
 
-pub header-on-spec : {M : Type 1} → statement M
-header-on-spec =
+pub header_on_spec : {M : Type 1} → statement M
+header_on_spec =
     tie.close
     (tie.spec
     (λ c. search rules)

@@ -7,66 +7,66 @@ use borrow.Author.Rules.{rules}
 use Rattle.graph_reader.proofs.read_graph_by.Statement.{statement}
 use Rattle.graph_reader.proofs.read_graph_by.Tie as tie
 
-read-graph-lines-requires : tie.Need-read-graph-lines-requires
+read-graph-lines-requires : tie.Need-read_graph_lines-requires
 read-graph-lines-requires c κs =
     let at-enum-told = c.before.before.before in
-    let at-check-text = at-enum-told.before.before in
+    let at-check-text = at-enum-told.before in
     let at-both2 = at-check-text.before in
     let at_both = at-both2.before in
     let at_clear = at_both.before.before.before.before.before.before in
-    let args = at_clear.before.before.before.before.before.before.before.args in
+    let args = at_clear.args in
     lent_cleared args.rules args.field (length args.row.now) (length args.column.now) (length args.weight.now) args.text.now
-    (lengths_right at_clear.clear.ensures at_both.both.ensures at-both2.both2.ensures) _ at-check-text.check-text.ensures
-    at-enum-told.enum_told.given.1 at_clear.clear.ensures
+    (lengths_right at_clear.clear.ensures at_both.both-ends.ensures at-both2.both-lent.ensures) _ at-check-text.check_text.ensures
+    at-enum-told.in-Passed.is at_clear.clear.ensures
 
-returns : tie.Need-returns
+returns : tie.Need-returns-in-Refused
 returns c =
-    let at-check-text = c.before.before.before in
+    let at-check-text = c.before in
     let at-both2 = at-check-text.before in
     let at_both = at-both2.before in
     let at_clear = at_both.before.before.before.before.before.before in
-    let args = at_clear.before.before.before.before.before.before.before.args in
+    let args = at_clear.args in
     whole_lent args.rules args.field (length args.row.now) (length args.column.now) (length args.weight.now) args.text.now
-    (lengths_right at_clear.clear.ensures at_both.both.ensures at-both2.both2.ensures) _ at-check-text.check-text.ensures
-    c.before.r.given.1 at_clear.clear.ensures
+    (lengths_right at_clear.clear.ensures at_both.both-ends.ensures at-both2.both-lent.ensures) _ at-check-text.check_text.ensures
+    c.in-Refused.is at_clear.clear.ensures
 
-returns-2 : tie.Need-returns-2
+returns-2 : tie.Need-returns-in-Graph
 returns-2 c =
-    let at-read-graph-lines = c.before.before.before.before.before.before.before.before in
+    let at-read-graph-lines = c.before.before.before.before.before.before in
     let at-enum-told = at-read-graph-lines.before.before.before.before in
-    let at-check-text = at-enum-told.before.before in
+    let at-check-text = at-enum-told.before in
     let at-both2 = at-check-text.before in
     let at_both = at-both2.before in
     let at_clear = at_both.before.before.before.before.before.before in
-    let args = at_clear.before.before.before.before.before.before.before.args in
-    let right = lengths_right at_clear.clear.ensures at_both.both.ensures at-both2.both2.ensures in
+    let args = at_clear.args in
+    let right = lengths_right at_clear.clear.ensures at_both.both-ends.ensures at-both2.both-lent.ensures in
     let passed = lent_passed args.rules args.field (length args.row.now) (length args.column.now) (length args.weight.now)
-    args.text.now right _ at-check-text.check-text.ensures at-enum-told.enum_told.given.1 in
+    args.text.now right _ at-check-text.check_text.ensures at-enum-told.in-Passed.is in
     let long = lent-right args.rules args.field (length args.row.now) (length args.column.now) (length args.weight.now)
-    args.text.now right _ at-check-text.check-text.ensures at-enum-told.enum_told.given.1 in
-    whole_read _ passed at-read-graph-lines.read-graph-lines.ensures long c.before.s.given.1
+    args.text.now right _ at-check-text.check_text.ensures at-enum-told.in-Passed.is in
+    whole_read _ passed at-read-graph-lines.read_graph_lines.ensures long c.in-Graph.is
 
-returns-3 : tie.Need-returns-3
+returns-3 : tie.Need-returns-in-Refused-read_graph_lines
 returns-3 c =
     let at-clear2 = c.before.before.before.before.before in
-    let at-r2 = at-clear2.before.before.before.before.before in
-    let at-read-graph-lines = at-r2.before.before.before.before.before.before.before in
+    let at-r2 = at-clear2.before.before.before.before in
+    let at-read-graph-lines = at-r2.before.before.before.before.before.before in
     let at-enum-told = at-read-graph-lines.before.before.before.before in
-    let at-check-text = at-enum-told.before.before in
+    let at-check-text = at-enum-told.before in
     let at-both2 = at-check-text.before in
     let at_both = at-both2.before in
     let at_clear = at_both.before.before.before.before.before.before in
-    let args = at_clear.before.before.before.before.before.before.before.args in
-    let right = lengths_right at_clear.clear.ensures at_both.both.ensures at-both2.both2.ensures in
+    let args = at_clear.args in
+    let right = lengths_right at_clear.clear.ensures at_both.both-ends.ensures at-both2.both-lent.ensures in
     let passed = lent_passed args.rules args.field (length args.row.now) (length args.column.now) (length args.weight.now)
-    args.text.now right _ at-check-text.check-text.ensures at-enum-told.enum_told.given.1 in
-    whole_refused _ passed at-read-graph-lines.read-graph-lines.ensures at-r2.r2.given.1
-    (cleared_again at-clear2.clear2.ensures (at-read-graph-lines.read-graph-lines.auto.1.1.1.0 ∙ row_kept at_clear.clear.ensures)
-    (at-read-graph-lines.read-graph-lines.auto.1.1.1.1.0 ∙ column_kept at_clear.clear.ensures)
-    (at-read-graph-lines.read-graph-lines.auto.1.1.1.1.1.0 ∙ weight-kept at_clear.clear.ensures))
+    args.text.now right _ at-check-text.check_text.ensures at-enum-told.in-Passed.is in
+    whole_refused _ passed at-read-graph-lines.read_graph_lines.ensures at-r2.in-Refused-read_graph_lines.is
+    (cleared_again at-clear2.clear-in-Refused-read_graph_lines.ensures (at-read-graph-lines.read_graph_lines.auto.1.1.1.0 ∙ row_kept at_clear.clear.ensures)
+    (at-read-graph-lines.read_graph_lines.auto.1.1.1.1.0 ∙ column_kept at_clear.clear.ensures)
+    (at-read-graph-lines.read_graph_lines.auto.1.1.1.1.1.0 ∙ weight-kept at_clear.clear.ensures))
 
-pub read-graph-by-spec : {M : Type 1} → statement M
-read-graph-by-spec =
+pub read_graph_by_spec : {M : Type 1} → statement M
+read_graph_by_spec =
     tie.close
     (tie.spec
     (λ c κs. search rules)

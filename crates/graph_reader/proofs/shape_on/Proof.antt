@@ -5,24 +5,24 @@ use borrow.Author.Rules.{rules}
 use Rattle.graph_reader.proofs.shape_on.Statement.{statement}
 use Rattle.graph_reader.proofs.shape_on.Tie as tie
 
-returns : tie.Need-returns
-returns c = (size_bad _ c.before.before.three-naturals.ensures c.enum_told.given.1, tt)
+returns : tie.Need-returns-in_default
+returns c = (size_bad _ c.three_naturals.ensures c.in_default.is, tt)
 
-returns-2 : tie.Need-returns-2
+returns-2 : tie.Need-returns-then-sizes_in_range
 returns-2 c =
-    let sizes-in-range = c.before.sizes-in-range in
-    let at_rows = c.before.before.before in
-    let three-naturals = at_rows.before.before.three-naturals in
-    (size_in _ three-naturals.ensures at_rows.rows.given.1 sizes-in-range.ensures c.if1.true, sym sizes-in-range.ensures ∙ c.if1.true)
+    let sizes-in-range = c.sizes_in_range in
+    let at_rows = c.before.before in
+    let three-naturals = at_rows.three_naturals in
+    (size_in _ three-naturals.ensures at_rows.in-Is.is sizes-in-range.ensures c.if-sizes_in_range.true, sym sizes-in-range.ensures ∙ c.if-sizes_in_range.true)
 
-returns-3 : tie.Need-returns-3
+returns-3 : tie.Need-returns-else-sizes_in_range
 returns-3 c =
-    let at_rows = c.before.before.before in
-    let three-naturals = at_rows.before.before.three-naturals in
-    (size_out _ three-naturals.ensures at_rows.rows.given.1 c.before.sizes-in-range.ensures c.if1.false, tt)
+    let at_rows = c.before.before in
+    let three-naturals = at_rows.three_naturals in
+    (size_out _ three-naturals.ensures at_rows.in-Is.is c.sizes_in_range.ensures c.if-sizes_in_range.false, tt)
 
-pub shape-on-spec : {M : Type 1} → statement M
-shape-on-spec =
+pub shape_on_spec : {M : Type 1} → statement M
+shape_on_spec =
     tie.close
     (tie.spec
     (λ c κs. search rules)

@@ -9,30 +9,30 @@ use Rattle.graph_writer.proofs.put_own.Statement.{statement}
 use Rattle.graph_writer.proofs.put_own.Tie as tie
 
 -- When the array has been filled: the start, and that it has room for the edges.
-abbrev begun : tie.After-fill-own → tie.Start
+abbrev begun : tie.After-fill_own → tie.Start
 begun c = c.before.before.before.before.before.before
 
-room : (c : tie.After-fill-own) → (begun c).args.s.edges ≤ length c.fill-own.new.0
-room c = omega (arith, (begun c).requires.1.sound.sizes.few, c.fill-own.auto.0, length-replicate {A = ℕ} 1024 0)
+room : (c : tie.After-fill_own) → (begun c).args.s.edges ≤ length c.fill_own.new.0
+room c = omega (arith, (begun c).requires.1.sound.sizes.few, c.fill_own.auto.0, length-replicate {A = ℕ} 1024 0)
 
-slice-aggregate-put-graph : tie.Need-slice-aggregate-put-graph
+slice-aggregate-put-graph : tie.Need-slice_bounds-put_graph-end
 slice-aggregate-put-graph c =
     let t = c.before.before.before in
-    first_long (begun t).args.s.edges t.fill-own.new.0 (room t)
+    first_long (begun t).args.s.edges t.fill_own.new.0 (room t)
 
-put-graph-requires : tie.Need-put-graph-requires
+put-graph-requires : tie.Need-put_graph-requires
 put-graph-requires c κs =
     let t = c.before.before.before in
-    ((begun t).requires.0, own_ordered (begun t).requires.1 t.fill-own.new.0 (room t) t.fill-own.ensures)
+    ((begun t).requires.0, own_ordered (begun t).requires.1 t.fill_own.new.0 (room t) t.fill_own.ensures)
 
 returns : tie.Need-returns
 returns c =
     let at-put-graph = c.before.before in
     let t = at-put-graph.before.before.before.before in
-    own_written (begun t).requires.1 t.fill-own.new.0 (room t) t.fill-own.ensures at-put-graph.put-graph.ensures
+    own_written (begun t).requires.1 t.fill_own.new.0 (room t) t.fill_own.ensures at-put-graph.put_graph.ensures
 
-pub put-own-spec : {M : Type 1} → statement M
-put-own-spec =
+pub put_own_spec : {M : Type 1} → statement M
+put_own_spec =
     tie.close
     (tie.spec
     (λ c. search rules)

@@ -22,42 +22,42 @@ columnOf s = get_or s.args.column.now s.args.e 0
 abbrev weight_of : tie.Start → ℤ
 weight_of s = get_or s.args.weight.now s.args.e (pos 0)
 
-abbrev begun : tie.After-put-signed → tie.Start
+abbrev begun : tie.After-put_signed-end → tie.Start
 begun c = c.before.before.before.before.before.before.before.before.before.before.before.before.before.before.before.before
 
 -- What has been written when the weight has.
-weighed : (c : tie.After-put-signed) →
+weighed : (c : tie.After-put_signed-end) →
     let s = begun c in
-    let p = c.put-signed in
+    let p = c.put_signed-end in
     Part s.args.out.now s.args.at (ends (row_of s) (columnOf s) ++ signed (weight_of s)) p.new.0 p.result (s.args.at + 21 + 21 + 21)
 weighed c =
     let w = c.before.before in
     let second = w.before.before.before in
     let first = second.before.before.before.before.before in
     let s = begun c in
-    weight_part s.pre.0 _ _ (weight_of s) w.element.ensures.0 w.element.type-inv
-    (column_part s.pre.0 _ _ (row_part s.pre.0 _ first.put-field.ensures) second.put-field2.ensures)
-    c.put-signed.ensures
+    weight_part s.requires.0 _ _ (weight_of s) w.element-w.ensures.0 w.element-w.type_inv
+    (column_part s.requires.0 _ _ (row_part s.requires.0 _ first.put_field-a.ensures) second.put_field-b.ensures)
+    c.put_signed-end.ensures
 
-cast-put-field : tie.Need-overflow-cast-put-field
-cast-put-field c = omega (arith, c.shared-slice-known3.given c.before.before.before.before.before.args.e)
+cast-put-field : tie.Need-overflow_cast-row
+cast-put-field c = omega (arith, c.shared_slice_known-3-1.given c.args.e)
 
-cast-put-field-2 : tie.Need-overflow-cast-put-field-2
-cast-put-field-2 c = omega (arith, c.shared-slice-known4.given c.before.before.before.before.before.before.before.before.before.before.args.e)
+cast-put-field-2 : tie.Need-overflow_cast-column
+cast-put-field-2 c = omega (arith, c.shared_slice_known-4-1.given c.args.e)
 
-same_length : tie.Need-same-length
+same_length : tie.Need-shape_of-out
 same_length c =
     let t = c.before.before in
-    length-set t.put-signed.new.0 t.put-signed.result 10 ∙ (weighed t).long
+    length-set t.put_signed-end.new.0 t.put_signed-end.result 10 ∙ (weighed t).long
 
 returns : tie.Need-returns
 returns c =
     let t = c.before.before in
     let s = begun t in
-    line_put s.pre.0 (row_of s) (columnOf s) (weight_of s) (weighed t)
+    line_put s.requires.0 (row_of s) (columnOf s) (weight_of s) (weighed t)
 
-pub put-weighted-edge-spec : {M : Type 1} → statement M
-put-weighted-edge-spec =
+pub put_weighted_edge_spec : {M : Type 1} → statement M
+put_weighted_edge_spec =
     tie.close
     (tie.spec
     (λ c. search rules)

@@ -6,16 +6,21 @@ use borrow.Author.Rules.{rules}
 use Rattle.headers.proofs.ended.Statement.{statement}
 use Rattle.headers.proofs.ended.Tie as tie
 
-no-words-requires : tie.Need-no-words-requires
+no-words-requires : tie.Need-no_words-requires
 no-words-requires c κs =
-    let start = c.before.before.before.before in
-    within-at start.args.line.now _ _ c.before.from.given.1 start.requires
+    let start = c.before.before in
+    within-at start.args.line.now _ _ c.in-After.is start.requires
 
-returns-2 : tie.Need-returns-2
+returns-2 : tie.Need-returns
 returns-2 c =
     let from = c.before.before.from in
-    let args = c.before.before.before.before.before.args in
+    let args = c.args in
     c.no_words.ensures ∙ ended_at args.line.now _ _ from.given.1
 
-pub ended-spec : {M : Type 1} → statement M
-ended-spec = tie.close (tie.spec (λ c. search rules) (λ c. search rules) (λ c. search rules) no-words-requires returns-2)
+pub ended_spec : {M : Type 1} → statement M
+ended_spec = tie.close (tie.spec
+    (λ c. search rules)
+    (λ c. search rules)
+    (λ c. search rules)
+    no-words-requires
+    returns-2)

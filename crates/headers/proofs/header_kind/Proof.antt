@@ -6,29 +6,29 @@ use borrow.Author.Rules.{rules}
 use Rattle.headers.proofs.header_kind.Statement.{statement}
 use Rattle.headers.proofs.header_kind.Tie as tie
 
-returns : tie.Need-returns
+returns : tie.Need-returns-then-is_header
 returns c =
-    let args = c.before.before.before.before.before.before.before.args in
-    kind-told args.field.now args.line.now true _ (sym c.before.is-header.ensures ∙ c.if1.true) refl
+    let args = c.args in
+    kind-told args.field.now args.line.now true _ (sym c.is_header.ensures ∙ c.if-is_header.true) refl
 
-returns-2 : tie.Need-returns-2
+returns-2 : tie.Need-returns-then-is_header-2
 returns-2 c =
     let at-if1 = c.before.before.before.before.before in
     let at-is-header = at-if1.before in
-    let args = at-is-header.before.before.before.before.before.before.args in
-    kind-told args.field.now args.line.now false true (sym at-is-header.is-header.ensures ∙ at-if1.if1.false)
-    (sym c.before.is-header2.ensures ∙ c.if2.true)
+    let args = at-is-header.args in
+    kind-told args.field.now args.line.now false true (sym at-is-header.is_header.ensures ∙ at-if1.if-is_header.false)
+    (sym c.is_header-2.ensures ∙ c.if-is_header-2.true)
 
-returns-3 : tie.Need-returns-3
+returns-3 : tie.Need-returns
 returns-3 c =
     let at-if1 = c.before.before.before.before.before in
     let at-is-header = at-if1.before in
-    let args = at-is-header.before.before.before.before.before.before.args in
-    kind-told args.field.now args.line.now false false (sym at-is-header.is-header.ensures ∙ at-if1.if1.false)
-    (sym c.before.is-header2.ensures ∙ c.if2.false)
+    let args = at-is-header.args in
+    kind-told args.field.now args.line.now false false (sym at-is-header.is_header.ensures ∙ at-if1.if-is_header.false)
+    (sym c.is_header-2.ensures ∙ c.if-is_header-2.false)
 
-pub header-kind-spec : {M : Type 1} → statement M
-header-kind-spec =
+pub header_kind_spec : {M : Type 1} → statement M
+header_kind_spec =
     tie.close
     (tie.spec
     (λ c. search rules)

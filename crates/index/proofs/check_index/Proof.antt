@@ -12,27 +12,27 @@ use Rattle.index.proofs.check_index.Tie as tie
 abbrev graph : tie.Start → Graph
 graph c = graph_of c.args.s c.args.row.now c.args.column.now c.args.weight.now
 
-returns : tie.Need-returns
+returns : tie.Need-returns-in-Refused
 returns c =
-    let start = c.before.before.before.before.before.before.before in
-    test_refused (graph start) start.args.index.now c.before.before.before.check-numbers.ensures c.before.r.given.1
+    let start = c.before.before.before.before.before in
+    test_refused (graph start) start.args.index.now c.check_numbers.ensures c.in-Refused.is
 
-check-places-requires : tie.Need-check-places-requires
+check-places-requires : tie.Need-check_places-requires
 check-places-requires c κs =
-    let start = c.before.before.before.before.before.before in
+    let start = c.before.before.before.before.before in
     let n = length start.args.index.now in
-    let says = c.before.before.check-numbers.ensures in
-    let passed = c.enum_told.given.1 in
+    let says = c.check_numbers.ensures in
+    let passed = c.in_default.is in
     (sound (graph start) n says passed, size (graph start) n says passed)
 
-returns-2 : tie.Need-returns-2
+returns-2 : tie.Need-returns
 returns-2 c =
-    let start = c.before.before.before.before.before.before.before in
-    c.check-places.ensures
-    ∙ index_left (graph start) start.args.index.now c.before.before.before.check-numbers.ensures c.before.enum_told.given.1
+    let start = c.before.before.before.before.before.before in
+    c.check_places.ensures
+    ∙ index_left (graph start) start.args.index.now c.check_numbers.ensures c.in_default.is
 
-pub check-index-spec : {M : Type 1} → statement M
-check-index-spec =
+pub check_index_spec : {M : Type 1} → statement M
+check_index_spec =
     tie.close
     (tie.spec
     (λ c κs. search rules)

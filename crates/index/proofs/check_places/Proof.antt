@@ -11,32 +11,32 @@ use Rattle.index.proofs.check_places.Tie as tie
 abbrev graph : tie.Start → Graph
 graph c = graph_of c.args.s c.args.row.now c.args.column.now []
 
-returns : tie.Need-returns
+returns : tie.Need-returns-then-is_index
 returns c =
-    let s = c.before.before.before.before.before in holding_passes (graph s) s.args.index.now (c.before.is-index.ensures c.if1.true)
+    let s = c.before.before.before.before.before in holding_passes (graph s) s.args.index.now (c.is_index.ensures c.if-is_index.true)
 
-refused-item-requires : tie.Need-refused-item-requires
+refused-item-requires : tie.Need-refused_item-requires
 refused-item-requires c κs =
-    let at-lowest-difference = c.before.before.before in
+    let at-lowest-difference = c.before in
     let s = at-lowest-difference.before.before.before.before.before.before in
-    place_among (graph s) s.args.index.now at-lowest-difference.lowest-difference.ensures s.requires.0 c.before.k.given.1
+    place_among (graph s) s.args.index.now at-lowest-difference.lowest_difference.ensures s.requires.0 c.in-At.is
 
-returns-2 : tie.Need-returns-2
+returns-2 : tie.Need-returns-in-At
 returns-2 c =
-    let at-k = c.before.before in
-    let at-lowest-difference = at-k.before.before in
+    let at-k = c.before in
+    let at-lowest-difference = at-k.before in
     let s = at-lowest-difference.before.before.before.before.before.before in
-    c.refused-item.ensures
-    ∙ place_refused (graph s) s.args.index.now at-lowest-difference.lowest-difference.ensures at-k.k.given.1
+    c.refused_item.ensures
+    ∙ place_refused (graph s) s.args.index.now at-lowest-difference.lowest_difference.ensures at-k.in-At.is
 
-returns-3 : tie.Need-returns-3
+returns-3 : tie.Need-returns
 returns-3 c =
-    let at-lowest-difference = c.before.before in
+    let at-lowest-difference = c.before in
     let s = at-lowest-difference.before.before.before.before.before.before in
-    none_refused (graph s) s.args.index.now at-lowest-difference.lowest-difference.ensures c.enum_told.given.1
+    none_refused (graph s) s.args.index.now at-lowest-difference.lowest_difference.ensures c.in_default.is
 
-pub check-places-spec : {M : Type 1} → statement M
-check-places-spec =
+pub check_places_spec : {M : Type 1} → statement M
+check_places_spec =
     tie.close
     (tie.spec
     (λ c κs. search rules)

@@ -12,49 +12,49 @@ use Rattle.index.proofs.edge_stands.Tie as tie
 abbrev graph : tie.Start → Graph
 graph c = graph_of c.args.s c.args.row.now c.args.column.now []
 
-ends-of-requires : tie.Need-ends-of-requires
+ends-of-requires : tie.Need-ends_of-ends-requires
 ends-of-requires c κs =
     let start = c.before.before.before.before.before in
     let pre = start.requires in
     let E = pre.0.0.ends _ pre.0.1 in
     (E.row.least, E.column.least)
 
-stands-at-requires : tie.Need-stands-at-requires
+stands-at-requires : tie.Need-stands_at-requires
 stands-at-requires c κs =
     let at-ends-of = c.before.before in
     let s = at-ends-of.before.before.before.before.before.before in
-    let ends = at-ends-of.ends_of.ensures in
-    first_asks (graph s) s.requires.0.0 s.requires.0.1 s.requires.1.1 ends.0 ends.1 c.before.offset-numbers.ensures s.requires.1.0
+    let ends = at-ends-of.ends_of-ends.ensures in
+    first_asks (graph s) s.requires.0.0 s.requires.0.1 s.requires.1.1 ends.0 ends.1 c.offset_numbers-from.ensures s.requires.1.0
 
-stands-at-requires-2 : tie.Need-stands-at-requires-2
+stands-at-requires-2 : tie.Need-stands_at-requires-then-stands_at
 stands-at-requires-2 c κs =
     let at-stands-at = c.before.before in
     let at-offset-numbers = at-stands-at.before.before in
     let at-ends-of = at-offset-numbers.before in
     let s = at-ends-of.before.before.before.before.before.before in
-    let ends = at-ends-of.ends_of.ensures in
-    let from = at-offset-numbers.offset-numbers.ensures in
-    let first = at-stands-at.stands_at.ensures c.before.if1.true in
+    let ends = at-ends-of.ends_of-ends.ensures in
+    let from = at-offset-numbers.offset_numbers-from.ensures in
+    let first = at-stands-at.stands_at.ensures c.if-stands_at.true in
     second_asks (graph s) s.requires.0.0 s.requires.0.1 s.requires.1.1 ends.0 ends.1 from first.1 s.requires.1.0
 
-returns : tie.Need-returns
+returns : tie.Need-returns-then-stands_at
 returns c =
     let at-if1 = c.before.before in
     let at-stands-at = at-if1.before in
     let at-offset-numbers = at-stands-at.before.before in
     let at-ends-of = at-offset-numbers.before in
     let s = at-ends-of.before.before.before.before.before.before in
-    let ends = at-ends-of.ends_of.ensures in
-    let from = at-offset-numbers.offset-numbers.ensures in
-    let first = at-stands-at.stands_at.ensures at-if1.if1.true in
-    λ t. let second = c.stands-at2.ensures t in
+    let ends = at-ends-of.ends_of-ends.ensures in
+    let from = at-offset-numbers.offset_numbers-from.ensures in
+    let first = at-stands-at.stands_at.ensures at-if1.if-stands_at.true in
+    λ t. let second = c.stands_at-then-stands_at.ensures t in
     standing_more (graph s) s.requires.0.0 s.requires.0.1 s.requires.1.1 ends.0 ends.1 from first.1 refl first.0 second.0 second.1
 
-returns-2 : tie.Need-returns-2
+returns-2 : tie.Need-returns-else-stands_at
 returns-2 c = λ t. absurd (false≢true t)
 
-pub edge-stands-spec : {M : Type 1} → statement M
-edge-stands-spec =
+pub edge_stands_spec : {M : Type 1} → statement M
+edge_stands_spec =
     tie.close
     (tie.spec
     (λ c. search rules)

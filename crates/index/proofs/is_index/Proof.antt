@@ -10,51 +10,51 @@ use Rattle.index.proofs.Standing.{standing_none, standing_all}
 use Rattle.index.proofs.is_index.Statement.{statement}
 use Rattle.index.proofs.is_index.Tie as tie
 
-abbrev invariant-loop : tie.invariant-loop
+abbrev invariant-loop : tie.invariant-loop-e
 invariant-loop s row column index n count₀ e₀ count e = (e ≤ length row) × Standing (graph_of s row column []) index count e
 
-abbrev decreases-loop : tie.decreases-loop
+abbrev decreases-loop : tie.decreases-loop-e
 decreases-loop s row column index n count₀ e₀ count e = length row - e
 
 -- The graph of the parameters.
 abbrev graph : tie.Start invariant-loop decreases-loop → Graph
 graph c = graph_of c.args.s c.args.row.now c.args.column.now []
 
-loop-holds : tie.Need-loop-init invariant-loop decreases-loop
+loop-holds : tie.Need-loop-e-init invariant-loop decreases-loop
 loop-holds c = let s = c.before.before.before.before in (omega arith, standing_none (graph s) s.args.index.now s.requires.0)
 
-edge-stands-requires : tie.Need-edge-stands-requires invariant-loop decreases-loop
+edge-stands-requires : tie.Need-edge_stands-requires invariant-loop decreases-loop
 edge-stands-requires c κs =
     let at-loop = c.before.before in
     let start = at-loop.before.before.before.before.before in
     let pre = start.requires in
-    ((pre.0, omega (arith, pre.0.row_long, c.before.loop-test.true)), (pre.1, at-loop.loop.invariant.1))
+    ((pre.0, omega (arith, pre.0.row_long, c.loop-e-test.true)), (pre.1, at-loop.loop-e.invariant.1))
 
-loop-again : tie.Need-loop-preserved invariant-loop decreases-loop
-loop-again c = (omega (arith, c.before.before.before.loop-test.true), c.before.edge-stands.ensures c.if1.true)
+loop-again : tie.Need-loop-e-preserved invariant-loop decreases-loop
+loop-again c = (omega (arith, c.loop-e-test.true), c.edge_stands.ensures c.if-edge_stands.true)
 
-returns : tie.Need-returns invariant-loop decreases-loop
+returns : tie.Need-returns-else-edge_stands invariant-loop decreases-loop
 returns c = λ t. absurd (false≢true t)
 
-adds-up-requires : tie.Need-adds-up-requires invariant-loop decreases-loop
+adds-up-requires : tie.Need-adds_up-requires invariant-loop decreases-loop
 adds-up-requires c κs =
     let at-vertex-count = c.before.before in
     let start = at-vertex-count.before.before.before.before in
     let pre = start.requires in
-    let n = at-vertex-count.vertex-count.ensures in
+    let n = at-vertex-count.vertex_count-n.ensures in
     (omega (arith, n, pre.0.sizes.order), omega (arith, n, pre.1))
 
-returns-2 : tie.Need-returns-2 invariant-loop decreases-loop
+returns-2 : tie.Need-returns invariant-loop decreases-loop
 returns-2 c =
     let at-loop = c.before.before in
     let at-vertex-count = at-loop.before in
     let s = at-vertex-count.before.before.before.before in
-    let inv = at-loop.loop.invariant in
-    λ t. standing_all (graph s) s.requires.0 inv.1 (omega (arith, inv.0, c.before.loop-test.false, s.requires.0.row_long)) at-vertex-count.vertex-count.ensures
-    (c.adds-up.ensures t)
+    let inv = at-loop.loop-e.invariant in
+    λ t. standing_all (graph s) s.requires.0 inv.1 (omega (arith, inv.0, c.loop-e-test.false, s.requires.0.row_long)) at-vertex-count.vertex_count-n.ensures
+    (c.adds_up.ensures t)
 
-pub is-index-spec : {M : Type 1} → statement M
-is-index-spec =
+pub is_index_spec : {M : Type 1} → statement M
+is_index_spec =
     tie.close
     (tie.spec
     invariant-loop

@@ -6,10 +6,10 @@ use Rattle.index.proofs.lowest_difference.Statement.{statement}
 use Rattle.index.proofs.lowest_difference.Tie as tie
 
 returns : tie.Need-returns
-returns c = difference c.before.before.before.before.fill-index.ensures c.lowest-unequal.ensures (omega arith)
+returns c = difference c.fill_index.ensures c.lowest_unequal.ensures (omega arith)
 
-pub lowest-difference-spec : {M : Type 1} → statement M
-lowest-difference-spec =
+pub lowest_difference_spec : {M : Type 1} → statement M
+lowest_difference_spec =
     tie.close
     (tie.spec
     (λ c. search rules)

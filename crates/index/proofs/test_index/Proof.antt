@@ -6,12 +6,17 @@ use borrow.Author.Rules.{rules}
 use Rattle.index.proofs.test_index.Statement.{statement}
 use Rattle.index.proofs.test_index.Tie as tie
 
-returns : tie.Need-returns
-returns c = ap told (sym (ap check_says c.enum_told.given.1) ∙ c.before.before.check-index.ensures)
+returns : tie.Need-returns-in-Passed
+returns c = ap told (sym (ap check_says c.in-Passed.is) ∙ c.check_index.ensures)
 
-returns-2 : tie.Need-returns-2
-returns-2 c = ap told (sym (ap check_says c.before.r.given.1) ∙ c.before.before.before.check-index.ensures)
+returns-2 : tie.Need-returns-in-Refused
+returns-2 c = ap told (sym (ap check_says c.in-Refused.is) ∙ c.check_index.ensures)
 
-pub test-index-spec : {M : Type 1} → statement M
-test-index-spec =
-    tie.close (tie.spec (λ c κs. search rules) (λ c. search rules) (λ c. search rules) returns returns-2)
+pub test_index_spec : {M : Type 1} → statement M
+test_index_spec =
+    tie.close (tie.spec
+    (λ c κs. search rules)
+    (λ c. search rules)
+    (λ c. search rules)
+    returns
+    returns-2)

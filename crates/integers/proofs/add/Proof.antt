@@ -14,8 +14,10 @@ fit c = fits_within w64 _ (within-add c.args.a c.args.b c.requires.0 c.requires.
 returns : tie.Need-returns
 returns c = simp (to_z-of_z w64 c.args.a c.ranges.a, to_z-of_z w64 c.args.b c.ranges.b, to_z-of_z w64 _ (fit c))
 
-add-result : tie.Need-overflow-add-result
+add-result : tie.Need-overflow_add-result
 add-result c = simp (to_z-of_z w64 c.args.a c.ranges.a, to_z-of_z w64 c.args.b c.ranges.b) (fit c)
 
 pub add_spec : {M : Type 1} → statement M
-add_spec = tie.close (tie.spec add-result returns)
+add_spec = tie.close (tie.spec
+    add-result
+    returns)

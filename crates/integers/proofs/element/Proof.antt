@@ -8,9 +8,13 @@ use Rattle.integers.proofs.element.Tie as tie
 
 returns : tie.Need-returns
 returns c = (
-  back w64 _ c.widen.type-inv ∙ c.widen.ensures.0 ∙ back w32 _ c.before.widen-arg.given,
-  within-back w64 c.widen.result c.widen.type-inv c.widen.ensures.1,
+  back w64 _ c.widen.type_inv ∙ c.widen.ensures.0 ∙ back w32 _ c.widen-arg-1.given,
+  within-back w64 c.widen.result c.widen.type_inv c.widen.ensures.1,
 )
 
-pub element-spec : {M : Type 1} → statement M
-element-spec = tie.close (tie.spec (λ c. search rules) (λ c. search rules) (λ c κs. search rules) returns)
+pub element_spec : {M : Type 1} → statement M
+element_spec = tie.close (tie.spec
+    (λ c. search rules)
+    (λ c. search rules)
+    (λ c κs. search rules)
+    returns)

@@ -9,17 +9,19 @@ use Rattle.integers.proofs.Order.{zero_times, one-times}
 use Rattle.integers.proofs.if_chosen.Statement.{statement}
 use Rattle.integers.proofs.if_chosen.Tie as tie
 
-returns : tie.Need-returns
+returns : tie.Need-returns-then-mark-eq1
 returns c =
     let start = c.before in
     simp (to_z-of_z w64 start.args.x start.ranges.x)
-    (sym (ap (λ (k : ℕ). pos k *ℤ start.args.x) c.if1.true ∙ one-times start.args.x), omega arith)
+    (sym (ap (λ (k : ℕ). pos k *ℤ start.args.x) c.if-mark-eq1.true ∙ one-times start.args.x), omega arith)
 
-returns-2 : tie.Need-returns-2
+returns-2 : tie.Need-returns-else-mark-eq1
 returns-2 c =
     let start = c.before in
-    let none : start.args.mark ≡ 0 = omega (arith, start.requires, c.if1.false) in
+    let none : start.args.mark ≡ 0 = omega (arith, start.requires, c.if-mark-eq1.false) in
     (sym (ap (λ (k : ℕ). pos k *ℤ start.args.x) none ∙ zero_times start.args.x), omega arith)
 
-pub if-chosen-spec : {M : Type 1} → statement M
-if-chosen-spec = tie.close (tie.spec returns returns-2)
+pub if_chosen_spec : {M : Type 1} → statement M
+if_chosen_spec = tie.close (tie.spec
+    returns
+    returns-2)

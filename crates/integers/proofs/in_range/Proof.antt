@@ -12,17 +12,19 @@ use Rattle.integers.proofs.in_range.Tie as tie
 read-test : {a b : ℤ} → SFits w32 a → SFits w32 b → (t : Bool) → le_z (to_z w32 (of_z w32 a)) (to_z w32 (of_z w32 b)) ≡ t → le_z a b ≡ t
 read-test {a} {b} f g t e = sym (ap₂ le_z (to_z-of_z w32 a f) (to_z-of_z w32 b g)) ∙ e
 
-returns : tie.Need-returns
+returns : tie.Need-returns-then-low-x
 returns c =
     let b = c.before in
     simp (to_z-of_z w32 b.args.x b.ranges.x, to_z-of_z w32 b.args.high b.ranges.high)
-    (sym (ap (λ (t : Bool). t && le_z b.args.x b.args.high) (read-test b.ranges.low b.ranges.x true c.if1.true)))
+    (sym (ap (λ (t : Bool). t && le_z b.args.x b.args.high) (read-test b.ranges.low b.ranges.x true c.if-low-x.true)))
 
-returns-2 : tie.Need-returns-2
+returns-2 : tie.Need-returns-else-low-x
 returns-2 c =
     let b = c.before in
-    let e = read-test b.ranges.low b.ranges.x false c.if1.false in
-    c.if1.false ∙ sym (ap (λ (t : Bool). t && le_z b.args.x b.args.high) e)
+    let e = read-test b.ranges.low b.ranges.x false c.if-low-x.false in
+    c.if-low-x.false ∙ sym (ap (λ (t : Bool). t && le_z b.args.x b.args.high) e)
 
-pub in-range-spec : {M : Type 1} → statement M
-in-range-spec = tie.close (tie.spec returns returns-2)
+pub in_range_spec : {M : Type 1} → statement M
+in_range_spec = tie.close (tie.spec
+    returns
+    returns-2)

@@ -21,11 +21,13 @@ fit c = (
   record { fits = lt_of_le_of_lt (nat_abs-le c.args.x c.ranges.x.sfits) (lit< tt) },
 )
 
-cast-result : tie.Need-overflow-cast-result
+cast-result : tie.Need-overflow_cast-result
 cast-result c = simp (to_z-of_z w32 c.args.x c.ranges.x) (fit c)
 
 returns : tie.Need-returns
 returns c = simp (to_z-of_z w32 c.args.x c.ranges.x) (pos-nat_abs _ (yes_non_neg c.requires), natAbs-up c.requires)
 
-pub natural-spec : {M : Type 1} → statement M
-natural-spec = tie.close (tie.spec cast-result returns)
+pub natural_spec : {M : Type 1} → statement M
+natural_spec = tie.close (tie.spec
+    cast-result
+    returns)

@@ -10,9 +10,13 @@ use Rattle.integers.proofs.natural_at.Statement.{statement}
 use Rattle.integers.proofs.natural_at.Tie as tie
 
 returns : tie.Need-returns
-returns c = c.natural-part.ensures ∙ ap up (back w32 (get_or c.before.before.args.w.now c.before.before.args.p (pos 0)) c.before.natural-part-arg.given)
+returns c = c.natural_part.ensures ∙ ap up (back w32 (get_or c.args.w.now c.args.p (pos 0)) c.natural_part-arg-1.given)
 
-pub natural-at-spec : {M : Type 1} → statement M
-natural-at-spec =
+pub natural_at_spec : {M : Type 1} → statement M
+natural_at_spec =
     tie.close
-    (tie.spec (λ c. search rules) (λ c. search rules) (λ c κs. search rules) returns)
+    (tie.spec
+    (λ c. search rules)
+    (λ c. search rules)
+    (λ c κs. search rules)
+    returns)

@@ -16,13 +16,16 @@ negative (pos n) h = absurd (omega tests)
 negative (negsuc n) h = refl
 
 natural-requires : tie.Need-natural-requires
-natural-requires c κs = lt_z_false _ _ c.if1.false
+natural-requires c κs = lt_z_false _ _ c.if-x-lt0.false
 
-returns : tie.Need-returns
-returns c = negative (to_z w32 (of_z w32 c.before.args.x)) c.if1.true ∙ ap up (to_z-of_z w32 c.before.args.x c.before.ranges.x)
+returns : tie.Need-returns-then-x-lt0
+returns c = negative (to_z w32 (of_z w32 c.args.x)) c.if-x-lt0.true ∙ ap up (to_z-of_z w32 c.args.x c.ranges.x)
 
-returns-2 : tie.Need-returns-2
-returns-2 c = c.natural.ensures.1 ∙ ap up (to_z-of_z w32 c.before.before.args.x c.before.before.ranges.x)
+returns-2 : tie.Need-returns-else-x-lt0
+returns-2 c = c.natural.ensures.1 ∙ ap up (to_z-of_z w32 c.args.x c.ranges.x)
 
-pub natural-part-spec : {M : Type 1} → statement M
-natural-part-spec = tie.close (tie.spec natural-requires returns returns-2)
+pub natural_part_spec : {M : Type 1} → statement M
+natural_part_spec = tie.close (tie.spec
+    natural-requires
+    returns
+    returns-2)

@@ -10,5 +10,10 @@ use Rattle.integers.proofs.put_natural.Tie as tie
 returns : tie.Need-returns
 returns c = ap (set c.args.out.now c.args.k) (to_z_pos w32 c.requires.1)
 
-pub put-natural-spec : {M : Type 1} → statement M
-put-natural-spec = tie.close (tie.spec (λ c. search rules) (λ c. search rules) (λ c. search rules) (λ c. search rules) returns)
+pub put_natural_spec : {M : Type 1} → statement M
+put_natural_spec = tie.close (tie.spec
+    (λ c. search rules)
+    (λ c. search rules)
+    (λ c. search rules)
+    (λ c. search rules)
+    returns)

@@ -16,8 +16,11 @@ fit c = fits_within w64 _ c.requires (lit< tt)
 returns : tie.Need-returns
 returns c = simp (to_z_pos w64 c.args.k (omega arith), to_z-of_z w64 c.args.x c.ranges.x, to_z-of_z w64 _ (fit c))
 
-mul-result : tie.Need-overflow-mul-result
+mul-result : tie.Need-overflow_mul-result
 mul-result c = simp (to_z_pos w64 c.args.k (omega arith), to_z-of_z w64 c.args.x c.ranges.x) (fit c)
 
-pub scale-spec : {M : Type 1} → statement M
-scale-spec = tie.close (tie.spec (λ c. search rules) mul-result returns)
+pub scale_spec : {M : Type 1} → statement M
+scale_spec = tie.close (tie.spec
+    (λ c. search rules)
+    mul-result
+    returns)

@@ -14,8 +14,10 @@ fit c = fits_within w64 _ (within-diff c.args.a c.args.b c.requires.0 c.requires
 returns : tie.Need-returns
 returns c = simp (to_z-of_z w64 c.args.a c.ranges.a, to_z-of_z w64 c.args.b c.ranges.b, to_z-of_z w64 _ (fit c))
 
-sub-result : tie.Need-overflow-sub-result
+sub-result : tie.Need-overflow_sub-result
 sub-result c = simp (to_z-of_z w64 c.args.a c.ranges.a, to_z-of_z w64 c.args.b c.ranges.b) (fit c)
 
-pub subtract-spec : {M : Type 1} → statement M
-subtract-spec = tie.close (tie.spec sub-result returns)
+pub subtract_spec : {M : Type 1} → statement M
+subtract_spec = tie.close (tie.spec
+    sub-result
+    returns)

@@ -10,5 +10,7 @@ use Rattle.integers.proofs.whole.Tie as tie
 returns : tie.Need-returns
 returns c = simp (to_z_pos w64 c.args.x (omega arith)) (refl, omega arith)
 
-pub whole-spec : {M : Type 1} → statement M
-whole-spec = tie.close (tie.spec (λ c. search rules) returns)
+pub whole_spec : {M : Type 1} → statement M
+whole_spec = tie.close (tie.spec
+    (λ c. search rules)
+    returns)

@@ -11,7 +11,7 @@ use Rattle.integers.proofs.widen.Tie as tie
 fit : (c : tie.Start) → SFits w64 c.args.x
 fit c = omega (arith, c.ranges.x.sfits)
 
-cast-result : tie.Need-overflow-cast-result
+cast-result : tie.Need-overflow_cast-result
 cast-result c = simp (to_z-of_z w32 c.args.x c.ranges.x) (fit c)
 
 returns : tie.Need-returns
@@ -20,4 +20,6 @@ returns c =
     (refl, omega (arith, le-mag c.args.x, c.ranges.x.sfits))
 
 pub widen_spec : {M : Type 1} → statement M
-widen_spec = tie.close (tie.spec cast-result returns)
+widen_spec = tie.close (tie.spec
+    cast-result
+    returns)

@@ -7,23 +7,23 @@ use borrow.Author.Rules.{rules}
 use Rattle.jangoripu.proofs.jangoripu_build_index.Statement.{statement}
 use Rattle.jangoripu.proofs.jangoripu_build_index.Tie as tie
 
-returns : tie.Need-returns
+returns : tie.Need-returns-in-Indexed
 returns c =
-    let done = c.before.before.before.before.build-index.ensures in
-    let given = c.before.before.before.before.before.before.shape-given.ensures in
-    rw (← given.0, ← given.1, ← given.2, ← given.3) (filling_told (yields tt) (sym (ap index_says c.enum_told.given.1) ∙ done.0) done.1)
+    let done = c.build_index.ensures in
+    let given = c.shape_given-s.ensures in
+    rw (← given.0, ← given.1, ← given.2, ← given.3) (filling_told (yields tt) (sym (ap index_says c.in-Indexed.is) ∙ done.0) done.1)
 
-returns-2 : tie.Need-returns-2
+returns-2 : tie.Need-returns-in-Refused
 returns-2 c =
-    let done = c.before.before.before.before.before.before.before.build-index.ensures in
+    let done = c.build_index.ensures in
     let r = c.before.before.before.refusal.given in
     let told = c.tell.ensures in
-    let given = c.before.before.before.before.before.before.before.before.before.shape-given.ensures in
+    let given = c.shape_given-s.ensures in
     rw (told.0, told.1, ← given.0, ← given.1, ← given.2, ← given.3)
     (filling_told (refuses r.0.0.fault r.0.0.place) (sym (ap index_says r.1) ∙ done.0) done.1)
 
-pub jangoripu-build-index-spec : {M : Type 1} → statement M
-jangoripu-build-index-spec =
+pub jangoripu_build_index_spec : {M : Type 1} → statement M
+jangoripu_build_index_spec =
     tie.close
     (tie.spec
     (λ c κs. search rules)

@@ -9,11 +9,11 @@ use borrow.Author.Rules.{rules}
 use Rattle.jangoripu.proofs.jangoripu_measure.Statement.{statement}
 use Rattle.jangoripu.proofs.jangoripu_measure.Tie as tie
 
-returns : tie.Need-returns
+returns : tie.Need-returns-in-Measured
 returns c =
     let m = c.before.before.before.m.given in
-    let fits = c.before.struct_told.given in
-    let given = c.before.before.before.before.before.before.shape-given.ensures in
+    let fits = c.struct_told-1.given in
+    let given = c.shape_given-s.ensures in
     rw (
       back w64 m.0.0.weight fits.0.1,
       back w64 m.0.0.total fits.1.0.1,
@@ -27,19 +27,19 @@ returns c =
       ← given.2,
       ← given.3,
     )
-    (measuring-told (yields m.0.0) (sym (ap measure_says m.1) ∙ c.before.before.before.before.before.measure.ensures))
+    (measuring-told (yields m.0.0) (sym (ap measure_says m.1) ∙ c.measure.ensures))
 
-returns-2 : tie.Need-returns-2
+returns-2 : tie.Need-returns-in-Refused
 returns-2 c =
-    let done = c.before.before.before.before.before.before.measure.ensures in
+    let done = c.measure.ensures in
     let r = c.before.before.before.before.refusal.given in
     let told = c.tell.ensures in
-    let given = c.before.before.before.before.before.before.before.shape-given.ensures in
+    let given = c.shape_given-s.ensures in
     rw (told.0, told.1, ← given.0, ← given.1, ← given.2, ← given.3)
     (measuring-told (refuses r.0.0.fault r.0.0.place) (sym (ap measure_says r.1) ∙ done))
 
-pub jangoripu-measure-spec : {M : Type 1} → statement M
-jangoripu-measure-spec =
+pub jangoripu_measure_spec : {M : Type 1} → statement M
+jangoripu_measure_spec =
     tie.close
     (tie.spec
     (λ c κs. search rules)

@@ -7,26 +7,26 @@ use borrow.Author.Rules.{rules}
 use Rattle.jangoripu.proofs.jangoripu_price_general.Statement.{statement}
 use Rattle.jangoripu.proofs.jangoripu_price_general.Tie as tie
 
-returns : tie.Need-returns
+returns : tie.Need-returns-in-Priced
 returns c =
-    let done = c.before.before.before.before in
-    let given = done.before.before.before.shape-given.ensures in
-    let left = done.price-general.ensures in
+    let done = c.before.before.before in
+    let given = done.shape_given-s.ensures in
+    let left = done.price_general.ensures in
     rw (← given.0, ← given.1, ← given.2, ← given.3)
-    (record { answers = testing_told (yields tt) (sym (ap price_says c.enum_told.given.1) ∙ left.0); leaves = left.1 })
+    (record { answers = testing_told (yields tt) (sym (ap price_says c.in-Priced.is) ∙ left.0); leaves = left.1 })
 
-returns-2 : tie.Need-returns-2
+returns-2 : tie.Need-returns-in-Refused
 returns-2 c =
     let r = c.before.before.before.refusal.given in
-    let done = c.before.before.before.before.before.before.before in
-    let given = done.before.before.before.shape-given.ensures in
-    let left = done.price-general.ensures in
+    let done = c.before.before.before.before.before in
+    let given = done.shape_given-s.ensures in
+    let left = done.price_general.ensures in
     let told = c.tell.ensures in
     rw (told.0, told.1, ← given.0, ← given.1, ← given.2, ← given.3)
     (record { answers = testing_told (refuses r.0.0.fault r.0.0.place) (sym (ap price_says r.1) ∙ left.0); leaves = left.1 })
 
-pub jangoripu-price-general-spec : {M : Type 1} → statement M
-jangoripu-price-general-spec =
+pub jangoripu_price_general_spec : {M : Type 1} → statement M
+jangoripu_price_general_spec =
     tie.close
     (tie.spec
     (λ c κs. search rules)

@@ -6,15 +6,15 @@ use Rattle.jangoripu.proofs.jangoripu_read_assignment.Tie as tie
 
 returns : tie.Need-returns
 returns c =
-    let read-assignment = c.before.before.before.before.before.before.before.before.read-assignment in
+    let read-assignment = c.read_assignment-told in
     record {
       graph = graph-read read-assignment.result read-assignment.ensures.0 read-assignment.ensures.1.0
-          read-assignment.ensures.1.1.0 read-assignment.ensures.1.1.1.0 c.tell-shape.ensures;
+          read-assignment.ensures.1.1.0 read-assignment.ensures.1.1.1.0 c.tell_shape.ensures;
       bounds = read-assignment.ensures.1.1.1.1;
     }
 
-pub jangoripu-read-assignment-spec : {M : Type 1} → statement M
-jangoripu-read-assignment-spec =
+pub jangoripu_read_assignment_spec : {M : Type 1} → statement M
+jangoripu_read_assignment_spec =
     tie.close
     (tie.spec
     (λ c κs. search rules)

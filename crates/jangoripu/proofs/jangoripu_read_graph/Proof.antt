@@ -6,12 +6,12 @@ use Rattle.jangoripu.proofs.jangoripu_read_graph.Tie as tie
 
 returns : tie.Need-returns
 returns c =
-    let read-graph = c.before.before.before.before.before.before.before.read-graph in
+    let read-graph = c.read_graph-told in
     graph-read read-graph.result read-graph.ensures.0 read-graph.ensures.1.0 read-graph.ensures.1.1.0 read-graph.ensures.1.1.1
-    c.tell-shape.ensures
+    c.tell_shape.ensures
 
-pub jangoripu-read-graph-spec : {M : Type 1} → statement M
-jangoripu-read-graph-spec =
+pub jangoripu_read_graph_spec : {M : Type 1} → statement M
+jangoripu_read_graph_spec =
     tie.close
     (tie.spec
     (λ c κs. search rules)

@@ -7,22 +7,22 @@ use borrow.Author.Rules.{rules}
 use Rattle.jangoripu.proofs.jangoripu_read_numbers.Statement.{statement}
 use Rattle.jangoripu.proofs.jangoripu_read_numbers.Tie as tie
 
-returns : tie.Need-returns
+returns : tie.Need-returns-in-Read
 returns c =
-    let done = c.before.before.before.read-numbers.ensures in
-    rw (← c.before.before.before.before.before.Numbers-of.ensures) (filling_told (yields tt) (sym (ap numbers_say c.enum_told.given.1) ∙ done.0) done.1)
+    let done = c.read_numbers.ensures in
+    rw (← c.numbers_of-what.ensures) (filling_told (yields tt) (sym (ap numbers_say c.in-Read.is) ∙ done.0) done.1)
 
-returns-2 : tie.Need-returns-2
+returns-2 : tie.Need-returns-in-Refused
 returns-2 c =
-    let done = c.before.before.before.before.before.before.read-numbers.ensures in
+    let done = c.read_numbers.ensures in
     let r = c.before.before.before.refusal.given in
     let told = c.tell.ensures in
-    let given = c.before.before.before.before.before.before.before.before.Numbers-of.ensures in
+    let given = c.numbers_of-what.ensures in
     rw (told.0, told.1, ← given)
     (filling_told (refuses r.0.0.fault r.0.0.place) (sym (ap numbers_say r.1) ∙ done.0) done.1)
 
-pub jangoripu-read-numbers-spec : {M : Type 1} → statement M
-jangoripu-read-numbers-spec =
+pub jangoripu_read_numbers_spec : {M : Type 1} → statement M
+jangoripu_read_numbers_spec =
     tie.close
     (tie.spec
     (λ c κs. search rules)

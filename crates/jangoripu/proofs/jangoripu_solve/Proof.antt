@@ -7,24 +7,24 @@ use borrow.Author.Rules.{rules}
 use Rattle.jangoripu.proofs.jangoripu_solve.Statement.{statement}
 use Rattle.jangoripu.proofs.jangoripu_solve.Tie as tie
 
-returns : tie.Need-returns
+returns : tie.Need-returns-in-Solved
 returns c =
-    let at-solve = c.before.before.before.before.before.before.before in
+    let at-solve = c.before.before.before.before.before.before in
     let done = at-solve.solve.ensures in
-    let given = at-solve.before.before.before.before.before.shape-given.ensures in
-    rw (← given.0, ← given.1, ← given.2, ← given.3) (graph_solved (yields tt) (sym (ap solve_says c.enum_told.given.1) ∙ done.0) done.1)
+    let given = at-solve.shape_given-s.ensures in
+    rw (← given.0, ← given.1, ← given.2, ← given.3) (graph_solved (yields tt) (sym (ap solve_says c.in-Solved.is) ∙ done.0) done.1)
 
-returns-2 : tie.Need-returns-2
+returns-2 : tie.Need-returns-in-Refused
 returns-2 c =
-    let done = c.before.before.before.before.before.before.before.before.before.before.solve.ensures in
+    let done = c.solve.ensures in
     let r = c.before.before.before.refusal.given in
     let told = c.tell.ensures in
-    let given = c.before.before.before.before.before.before.before.before.before.before.before.before.before.before.before.shape-given.ensures in
+    let given = c.shape_given-s.ensures in
     rw (told.0, told.1, ← given.0, ← given.1, ← given.2, ← given.3)
     (graph_solved (refuses r.0.0.fault r.0.0.place) (sym (ap solve_says r.1) ∙ done.0) done.1)
 
-pub jangoripu-solve-spec : {M : Type 1} → statement M
-jangoripu-solve-spec =
+pub jangoripu_solve_spec : {M : Type 1} → statement M
+jangoripu_solve_spec =
     tie.close
     (tie.spec
     (λ c κs. search rules)

@@ -7,35 +7,35 @@ use Rattle.keywords.proofs.Same.{Alike, same-length_differs, alike_more, alike_s
 use Rattle.keywords.proofs.same_word.Statement.{statement}
 use Rattle.keywords.proofs.same_word.Tie as tie
 
-abbrev invariant-loop : tie.invariant-loop
+abbrev invariant-loop : tie.invariant-loop-i
 invariant-loop w k i₀ i = Alike w k i
 
-abbrev decreases-loop : tie.decreases-loop
+abbrev decreases-loop : tie.decreases-loop-i
 decreases-loop w k i₀ i = length w - i
 
-returns : tie.Need-returns invariant-loop decreases-loop
-returns c = sym (same-length_differs _ _ c.if1.true)
+returns : tie.Need-returns-then-w-k invariant-loop decreases-loop
+returns c = sym (same-length_differs _ _ c.if-w-k.true)
 
-loop-holds : tie.Need-loop-init invariant-loop decreases-loop
-loop-holds c = (search rules, c.if1.false, refl)
+loop-holds : tie.Need-loop-i-init invariant-loop decreases-loop
+loop-holds c = (search rules, c.if-w-k.false, refl)
 
-returns-2 : tie.Need-returns-2 invariant-loop decreases-loop
+returns-2 : tie.Need-returns-then-w-i invariant-loop decreases-loop
 returns-2 c =
     let at-loop-test = c.before.before.before in
-    let inv = at-loop-test.before.loop.invariant in
-    sym (alike_stop _ _ _ inv at-loop-test.loop-test.true c.if2.true)
+    let inv = at-loop-test.loop-i.invariant in
+    sym (alike_stop _ _ _ inv at-loop-test.loop-i-test.true c.if-w-i.true)
 
-loop-again : tie.Need-loop-preserved invariant-loop decreases-loop
+loop-again : tie.Need-loop-i-preserved invariant-loop decreases-loop
 loop-again c =
     let at-loop-test = c.before.before.before in
-    let inv = at-loop-test.before.loop.invariant in
-    alike_more _ _ _ inv at-loop-test.loop-test.true c.if2.false
+    let inv = at-loop-test.loop-i.invariant in
+    alike_more _ _ _ inv at-loop-test.loop-i-test.true c.if-w-i.false
 
-returns-3 : tie.Need-returns-3 invariant-loop decreases-loop
-returns-3 c = sym (alike_end _ _ _ c.before.loop.invariant c.loop-test.false)
+returns-3 : tie.Need-returns invariant-loop decreases-loop
+returns-3 c = sym (alike_end _ _ _ c.loop-i.invariant c.loop-i-test.false)
 
-pub same-word-spec : {M : Type 1} → statement M
-same-word-spec =
+pub same_word_spec : {M : Type 1} → statement M
+same_word_spec =
     tie.close
     (tie.spec
     invariant-loop

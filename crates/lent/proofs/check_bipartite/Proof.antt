@@ -18,22 +18,22 @@ first s = let a = s.args in bounded_tests (graph_of a.s a.row.now a.column.now a
 abbrev last : tie.Start → List Test
 last s = let a = s.args in kind_test (graph_of a.s a.row.now a.column.now a.weight.now) ∷ []
 
-returns : tie.Need-returns
+returns : tie.Need-returns-in-Refused
 returns c =
-    let made = c.before.before.before in
+    let made = c.before in
     let s = made.before.before.before in
-    part-refuses (first s) (last s) (yields tt) made.check-bounded.ensures c.before.r.given.1
+    part-refuses (first s) (last s) (yields tt) made.check_bounded.ensures c.in-Refused.is
 
-returns-2 : tie.Need-returns-2
+returns-2 : tie.Need-returns
 returns-2 c =
     let passed = c.before.before in
-    let made = passed.before.before in
+    let made = passed.before in
     let s = made.before.before.before in
-    part-passes (first s) (last s) (yields tt) made.check-bounded.ensures passed.enum_told.given.1
-    (c.check-once.ensures ∙ ap (λ (b : Bool). passing (once NotBipartite b ∷ []) (yields tt)) c.before.is-bipartite.ensures)
+    part-passes (first s) (last s) (yields tt) made.check_bounded.ensures passed.in_default.is
+    (c.check_once-last.ensures ∙ ap (λ (b : Bool). passing (once NotBipartite b ∷ []) (yields tt)) c.is_bipartite.ensures)
 
-pub check-bipartite-spec : {M : Type 1} → statement M
-check-bipartite-spec =
+pub check_bipartite_spec : {M : Type 1} → statement M
+check_bipartite_spec =
     tie.close
     (tie.spec
     (λ c κs. search rules)

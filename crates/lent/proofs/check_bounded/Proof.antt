@@ -23,42 +23,42 @@ told : (c : tie.After-both) →
     c.both.result ≡ (eqb (length s.args.bound.now) (vertices (graph s)) && s.args.others)
 told c =
     let s = begun c in
-    c.both.ensures ∙ ap (λ n. eqb (length s.args.bound.now) n && s.args.others) c.before.vertex-count.ensures
+    c.both.ensures ∙ ap (λ n. eqb (length s.args.bound.now) n && s.args.others) c.vertex_count.ensures
 
-returns : tie.Need-returns
+returns : tie.Need-returns-in-Refused
 returns c =
-    let tests = c.before.before.before in
+    let tests = c.before in
     let s = begun tests.before in
-    numbers_refused (graph s) s.args.bound.now s.args.others (told tests.before) tests.check-lent.ensures c.before.r.given.1
+    numbers_refused (graph s) s.args.bound.now s.args.others (told tests.before) tests.check_lent.ensures c.in-Refused.is
 
-refused-item-requires : tie.Need-refused-item-requires
+refused-item-requires : tie.Need-refused_item-requires
 refused-item-requires c κs =
-    let found = c.before.before.before in
-    let tests = found.before.before.before in
+    let found = c.before in
+    let tests = found.before.before in
     let s = begun tests.before in
-    bound_among (graph s) s.args.bound.now s.args.others (told tests.before) tests.check-lent.ensures found.before.enum_told.given.1
-    found.lowest-bound.ensures c.before.v.given.1
+    bound_among (graph s) s.args.bound.now s.args.others (told tests.before) tests.check_lent.ensures found.in_default.is
+    found.lowest_bound.ensures c.in-At.is
 
-returns-2 : tie.Need-returns-2
+returns-2 : tie.Need-returns-in-At
 returns-2 c =
-    let found = c.before.before.before.before in
-    let tests = found.before.before.before in
+    let found = c.before.before in
+    let tests = found.before.before in
     let s = begun tests.before in
-    c.refused-item.ensures
-    ∙ bound_refused (graph s) s.args.bound.now s.args.others (told tests.before) tests.check-lent.ensures found.before.enum_told.given.1
-    found.lowest-bound.ensures c.before.before.v.given.1
+    c.refused_item.ensures
+    ∙ bound_refused (graph s) s.args.bound.now s.args.others (told tests.before) tests.check_lent.ensures found.in_default.is
+    found.lowest_bound.ensures c.in-At.is
 
-returns-3 : tie.Need-returns-3
+returns-3 : tie.Need-returns
 returns-3 c =
     let None-found = c in
-    let found = None-found.before.before in
-    let tests = found.before.before.before in
+    let found = None-found.before in
+    let tests = found.before.before in
     let s = begun tests.before in
-    all_passed (graph s) s.args.bound.now s.args.others (told tests.before) tests.check-lent.ensures found.before.enum_told.given.1
-    found.lowest-bound.ensures None-found.enum-told2.given.1
+    all_passed (graph s) s.args.bound.now s.args.others (told tests.before) tests.check_lent.ensures found.in_default.is
+    found.lowest_bound.ensures None-found.in_default-lowest_bound.is
 
-pub check-bounded-spec : {M : Type 1} → statement M
-check-bounded-spec =
+pub check_bounded_spec : {M : Type 1} → statement M
+check_bounded_spec =
     tie.close
     (tie.spec
     (λ c κs. search rules)

@@ -22,37 +22,43 @@ graph s =
 tested : {t l : Bool} (g : Graph) (others : Bool) {b : Bool} → l ≡ graph_lengths g → t ≡ (l && others) → t ≡ b → (graph_lengths g && others) ≡ b
 tested g others i j e = sym (j ∙ ap (λ (x : Bool). x && others) i) ∙ e
 
-check-graph-requires : tie.Need-check-graph-requires
+check-graph-requires : tie.Need-check_graph-requires
 check-graph-requires c κs =
-    let lengths-match = c.before.before.lengths-match in
+    let lengths-match = c.lengths_match in
     let start = c.before.before.before.before.before in
     let g = graph start in
     let o = start.args.others in
-    lengths_hold g (both (graph_lengths g) o (tested g o lengths-match.ensures c.before.both.ensures c.if1.true)).0
+    lengths_hold g (both (graph_lengths g) o (tested g o lengths-match.ensures c.both.ensures c.if-both.true)).0
 
-returns : tie.Need-returns
+returns : tie.Need-returns-then-both
 returns c =
-    let the-both = c.before.before.both in
+    let the-both = c.both in
     let at-lengths-match = c.before.before.before in
     let start = at-lengths-match.before.before.before in
     let g = graph start in
     let o = start.args.others in
-    c.check-graph.ensures
+    c.check_graph.ensures
     ∙ sym
     (once-passes LentLength (graph_lengths g && o) (graph_tests g) (yields tt)
-    (tested g o at-lengths-match.lengths-match.ensures the-both.ensures c.before.if1.true))
+    (tested g o at-lengths-match.lengths_match.ensures the-both.ensures c.if-both.true))
 
-returns-2 : tie.Need-returns-2
+returns-2 : tie.Need-returns-else-both
 returns-2 c =
-    let the-both = c.before.before.both in
+    let the-both = c.both in
     let at-lengths-match = c.before.before.before in
     let start = at-lengths-match.before.before.before in
     let g = graph start in
     let o = start.args.others in
-    let t = tested g o at-lengths-match.lengths-match.ensures the-both.ensures c.before.if1.false in
+    let t = tested g o at-lengths-match.lengths_match.ensures the-both.ensures c.if-both.false in
     ap check_says c.refused.ensures ∙ sym (once-refuses LentLength (graph_lengths g && o) (graph_tests g) (yields tt) t)
 
-pub check-lent-spec : {M : Type 1} → statement M
-check-lent-spec =
+pub check_lent_spec : {M : Type 1} → statement M
+check_lent_spec =
     tie.close
-    (tie.spec (λ c κs. search rules) (λ c κs. search rules) check-graph-requires (λ c κs. search rules) returns returns-2)
+    (tie.spec
+    (λ c κs. search rules)
+    (λ c κs. search rules)
+    check-graph-requires
+    (λ c κs. search rules)
+    returns
+    returns-2)

@@ -9,8 +9,11 @@ use Rattle.lent.proofs.lengths_match.Tie as tie
 
 returns : tie.Need-returns
 returns c =
-    let a = c.before.before.before.before.args in
-    c.both2.ensures ∙ ap (λ (t : Bool). t && eqb (length a.weight.now) a.edges) c.before.both.ensures
+    let a = c.args in
+    c.both-2.ensures ∙ ap (λ (t : Bool). t && eqb (length a.weight.now) a.edges) c.both.ensures
 
-pub lengths-match-spec : {M : Type 1} → statement M
-lengths-match-spec = tie.close (tie.spec (λ c κs. search rules) (λ c κs. search rules) returns)
+pub lengths_match_spec : {M : Type 1} → statement M
+lengths_match_spec = tie.close (tie.spec
+    (λ c κs. search rules)
+    (λ c κs. search rules)
+    returns)

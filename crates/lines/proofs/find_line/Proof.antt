@@ -3,7 +3,7 @@ use Prim.Native.Nat.{◌+◌, ◌-◌}
 use mathlib.Core.Path.{refl, sym, ◌∙◌}
 use native.Mathlib.Omega.{arith}
 use borrow.Author.Rules.{rules}
-use borrow.Author.Tests.{not_true, not-false}
+use borrow.Author.Tests.{not-true, not-false}
 use lib.ListN.{length}
 use Rattle.text.proofs.Lined.{done, lined}
 use Rattle.lines.specs.Found.{skips}
@@ -11,111 +11,111 @@ use Rattle.lines.proofs.Search.{Search, search_ends, search_long, search_finds, 
 use Rattle.lines.proofs.find_line.Statement.{statement}
 use Rattle.lines.proofs.find_line.Tie as tie
 
-abbrev invariant-loop : tie.invariant-loop
+abbrev invariant-loop : tie.invariant-loop-start
 invariant-loop s what c₀ c = Search (skips what) s c₀ c
 
-abbrev decreases-loop : tie.decreases-loop
+abbrev decreases-loop : tie.decreases-loop-start
 decreases-loop s what c₀ c = length s + 1 - c.at
 
-loop-holds : tie.Need-loop-init invariant-loop decreases-loop
+loop-holds : tie.Need-loop-start-init invariant-loop decreases-loop
 loop-holds c =
-    let pre = c.before.requires in
+    let pre = c.requires in
     record { behind = pre.behind; reach = pre.reach; onward = search rules; whole = refl }
 
-next-line-requires : tie.Need-next-line-requires invariant-loop decreases-loop
-next-line-requires c κs = c.loop.invariant.behind
+next-line-requires : tie.Need-next_line-requires invariant-loop decreases-loop
+next-line-requires c κs = c.loop-start.invariant.behind
 
-add-t11 : tie.Need-overflow-add-t11 invariant-loop decreases-loop
+add-t11 : tie.Need-overflow_add-result invariant-loop decreases-loop
 add-t11 c =
-    let inv = c.before.before.before.loop.invariant in
+    let inv = c.loop-start.invariant in
     omega (arith, inv.behind, inv.reach)
 
-returns : tie.Need-returns invariant-loop decreases-loop
+returns : tie.Need-returns-in-Done invariant-loop decreases-loop
 returns c =
-    let next-line = c.before.before.next-line in
-    let at-loop = c.before.before.before in
-    let args = at-loop.before.before.args in
+    let next-line = c.next_line in
+    let at-loop = c.before.before in
+    let args = at-loop.args in
     record {
-      says = search_ends (skips args.what) args.s.now _ _ at-loop.loop.invariant
-          (done args.s.now at-loop.loop.c _ next-line.ensures c.enum_told.given.1);
+      says = search_ends (skips args.what) args.s.now _ _ at-loop.loop-start.invariant
+          (done args.s.now at-loop.loop-start.c _ next-line.ensures c.in-Done.is);
       inside = tt;
     }
 
-sub-line : tie.Need-overflow-sub-line invariant-loop decreases-loop
+sub-line : tie.Need-slice_bounds-line-count invariant-loop decreases-loop
 sub-line c =
-    let at-next-line = c.before.before.before in
+    let at-next-line = c.before in
     let at-loop = at-next-line.before in
-    let args = at-loop.before.before.args in
-    (lined args.s.now at-loop.loop.c _ at-next-line.next-line.ensures _ _ _ c.before.start.given.1).forward
+    let args = at-loop.args in
+    (lined args.s.now at-loop.loop-start.c _ at-next-line.next_line.ensures _ _ _ c.in-Part.is).forward
 
-part-line-start : tie.Need-slice-bounds-line-start invariant-loop decreases-loop
+part-line-start : tie.Need-slice_bounds-line-start invariant-loop decreases-loop
 part-line-start c =
-    let at-next-line = c.before.before.before in
+    let at-next-line = c.before in
     let at-loop = at-next-line.before in
-    let args = at-loop.before.before.args in
-    (lined args.s.now at-loop.loop.c _ at-next-line.next-line.ensures _ _ _ c.before.start.given.1).forward
+    let args = at-loop.args in
+    (lined args.s.now at-loop.loop-start.c _ at-next-line.next_line.ensures _ _ _ c.in-Part.is).forward
 
-part-line-end : tie.Need-slice-bounds-line-end invariant-loop decreases-loop
+part-line-end : tie.Need-slice_bounds-line-end invariant-loop decreases-loop
 part-line-end c =
-    let at-next-line = c.before.before.before in
+    let at-next-line = c.before in
     let at-loop = at-next-line.before in
-    let args = at-loop.before.before.args in
-    (lined args.s.now at-loop.loop.c _ at-next-line.next-line.ensures _ _ _ c.before.start.given.1).inside
+    let args = at-loop.args in
+    (lined args.s.now at-loop.loop-start.c _ at-next-line.next_line.ensures _ _ _ c.in-Part.is).inside
 
-add-t17 : tie.Need-overflow-add-t17 invariant-loop decreases-loop
+add-t17 : tie.Need-overflow_add-result-then-line-gt-LONGEST_LINE invariant-loop decreases-loop
 add-t17 c =
-    let inv = c.before.before.before.before.before.before.loop.invariant in
+    let inv = c.loop-start.invariant in
     omega (arith, inv.behind, inv.reach)
 
-returns-2 : tie.Need-returns-2 invariant-loop decreases-loop
+returns-2 : tie.Need-returns-then-line-gt-LONGEST_LINE invariant-loop decreases-loop
 returns-2 c =
-    let at-start = c.before.before.before in
-    let at-next-line = at-start.before.before in
+    let at-start = c.before.before in
+    let at-next-line = at-start.before in
     let at-loop = at-next-line.before in
-    let args = at-loop.before.before.args in
+    let args = at-loop.args in
     record {
-      says = search_long (skips args.what) args.s.now _ _ at-loop.loop.invariant _ _ _
-          (lined args.s.now at-loop.loop.c _ at-next-line.next-line.ensures _ _ _ at-start.start.given.1) c.if1.true;
+      says = search_long (skips args.what) args.s.now _ _ at-loop.loop-start.invariant _ _ _
+          (lined args.s.now at-loop.loop-start.c _ at-next-line.next_line.ensures _ _ _ at-start.in-Part.is) c.if-line-gt-LONGEST_LINE.true;
       inside = tt;
     }
 
-returns-3 : tie.Need-returns-3 invariant-loop decreases-loop
+returns-3 : tie.Need-returns-then-not-is_skipped invariant-loop decreases-loop
 returns-3 c =
-    let if1 = c.before.before.if1 in
-    let at-start = c.before.before.before.before.before in
-    let at-next-line = at-start.before.before in
+    let if1 = c.if-line-gt-LONGEST_LINE in
+    let at-start = c.before.before.before.before in
+    let at-next-line = at-start.before in
     let at-loop = at-next-line.before in
-    let args = at-loop.before.before.args in
+    let args = at-loop.args in
     record {
-      says = search_finds (skips args.what) args.s.now _ _ at-loop.loop.invariant _ _ _
-          (lined args.s.now at-loop.loop.c _ at-next-line.next-line.ensures _ _ _ at-start.start.given.1) if1.false
-          (sym c.before.is-skipped.ensures ∙ not_true _ c.if2.true);
-      inside = search_inside (skips args.what) args.s.now _ _ at-loop.loop.invariant _ _ _
-          (lined args.s.now at-loop.loop.c _ at-next-line.next-line.ensures _ _ _ at-start.start.given.1);
+      says = search_finds (skips args.what) args.s.now _ _ at-loop.loop-start.invariant _ _ _
+          (lined args.s.now at-loop.loop-start.c _ at-next-line.next_line.ensures _ _ _ at-start.in-Part.is) if1.false
+          (sym c.is_skipped.ensures ∙ not-true _ c.if-not-is_skipped.true);
+      inside = search_inside (skips args.what) args.s.now _ _ at-loop.loop-start.invariant _ _ _
+          (lined args.s.now at-loop.loop-start.c _ at-next-line.next_line.ensures _ _ _ at-start.in-Part.is);
     }
 
-loop-less : tie.Need-loop-smaller invariant-loop decreases-loop
+loop-less : tie.Need-loop-start-smaller invariant-loop decreases-loop
 loop-less c =
-    let at-start = c.before.before.before.before.before in
-    let at-next-line = at-start.before.before in
+    let at-start = c.before.before.before.before in
+    let at-next-line = at-start.before in
     let at-loop = at-next-line.before in
-    let args = at-loop.before.before.args in
-    search_falls (skips args.what) args.s.now _ _ at-loop.loop.invariant _ _ _
-    (lined args.s.now at-loop.loop.c _ at-next-line.next-line.ensures _ _ _ at-start.start.given.1)
+    let args = at-loop.args in
+    search_falls (skips args.what) args.s.now _ _ at-loop.loop-start.invariant _ _ _
+    (lined args.s.now at-loop.loop-start.c _ at-next-line.next_line.ensures _ _ _ at-start.in-Part.is)
 
-loop-again : tie.Need-loop-preserved invariant-loop decreases-loop
+loop-again : tie.Need-loop-start-preserved invariant-loop decreases-loop
 loop-again c =
-    let if1 = c.before.before.if1 in
-    let at-start = c.before.before.before.before.before in
-    let at-next-line = at-start.before.before in
+    let if1 = c.if-line-gt-LONGEST_LINE in
+    let at-start = c.before.before.before.before in
+    let at-next-line = at-start.before in
     let at-loop = at-next-line.before in
-    let args = at-loop.before.before.args in
-    search_more (skips args.what) args.s.now _ _ at-loop.loop.invariant _ _ _
-    (lined args.s.now at-loop.loop.c _ at-next-line.next-line.ensures _ _ _ at-start.start.given.1) if1.false
-    (sym c.before.is-skipped.ensures ∙ not-false _ c.if2.false)
+    let args = at-loop.args in
+    search_more (skips args.what) args.s.now _ _ at-loop.loop-start.invariant _ _ _
+    (lined args.s.now at-loop.loop-start.c _ at-next-line.next_line.ensures _ _ _ at-start.in-Part.is) if1.false
+    (sym c.is_skipped.ensures ∙ not-false _ c.if-not-is_skipped.false)
 
-pub find-line-spec : {M : Type 1} → statement M
-find-line-spec =
+pub find_line_spec : {M : Type 1} → statement M
+find_line_spec =
     tie.close
     (tie.spec
     invariant-loop

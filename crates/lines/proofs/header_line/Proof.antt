@@ -6,7 +6,10 @@ use Rattle.lines.proofs.header_line.Statement.{statement}
 use Rattle.lines.proofs.header_line.Tie as tie
 
 returns : tie.Need-returns
-returns c = opened_as c.before.find-line.ensures Header c.to-come.ensures
+returns c = opened_as c.find_line.ensures Header c.to_come.ensures
 
-pub header-line-spec : {M : Type 1} → statement M
-header-line-spec = tie.close (tie.spec (λ c κs. search rules) (λ c κs. search rules) returns)
+pub header_line_spec : {M : Type 1} → statement M
+header_line_spec = tie.close (tie.spec
+    (λ c κs. search rules)
+    (λ c κs. search rules)
+    returns)

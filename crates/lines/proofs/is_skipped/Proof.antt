@@ -4,23 +4,23 @@ use borrow.Author.Rules.{rules}
 use Rattle.lines.proofs.is_skipped.Statement.{statement}
 use Rattle.lines.proofs.is_skipped.Tie as tie
 
-returns-2 : tie.Need-returns-2
+returns-2 : tie.Need-returns-in-BlankAndComment
 returns-2 c =
-    let args = c.before.before.before.before.args in
-    skips-as args.line.now c.before.enum-told2.given.1 c.is-blank-or-starts.ensures
+    let args = c.args in
+    skips-as args.line.now c.in-BlankAndComment.is c.is_blank_or_starts.ensures
 
-returns-3 : tie.Need-returns-3
+returns-3 : tie.Need-returns-in-Blank
 returns-3 c =
-    let args = c.before.before.before.before.args in
-    skips-as args.line.now c.before.enum-told3.given.1 c.is-blank-line.ensures
+    let args = c.args in
+    skips-as args.line.now c.in-Blank.is c.is_blank_line.ensures
 
-returns-4 : tie.Need-returns-4
+returns-4 : tie.Need-returns-in-BlankAndAssignmentComment
 returns-4 c =
-    let args = c.before.before.before.before.args in
-    skips-as args.line.now c.before.enum-told4.given.1 c.is-blank-or-starts2.ensures
+    let args = c.args in
+    skips-as args.line.now c.in-BlankAndAssignmentComment.is c.is_blank_or_starts-in-BlankAndAssignmentComment.ensures
 
-pub is-skipped-spec : {M : Type 1} → statement M
-is-skipped-spec =
+pub is_skipped_spec : {M : Type 1} → statement M
+is_skipped_spec =
     tie.close
     (tie.spec
     (λ c. search rules)

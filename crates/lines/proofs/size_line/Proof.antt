@@ -6,7 +6,10 @@ use Rattle.lines.proofs.size_line.Statement.{statement}
 use Rattle.lines.proofs.size_line.Tie as tie
 
 returns : tie.Need-returns
-returns c = opened_as c.before.find-line.ensures SizeLine c.to-come.ensures
+returns c = opened_as c.find_line.ensures SizeLine c.to_come.ensures
 
-pub size-line-spec : {M : Type 1} → statement M
-size-line-spec = tie.close (tie.spec (λ c κs. search rules) (λ c κs. search rules) returns)
+pub size_line_spec : {M : Type 1} → statement M
+size_line_spec = tie.close (tie.spec
+    (λ c κs. search rules)
+    (λ c κs. search rules)
+    returns)

@@ -4,7 +4,9 @@ use Rattle.lowest.proofs.lowest_bound.Statement.{statement}
 use Rattle.lowest.proofs.lowest_bound.Tie as tie
 
 returns : tie.Need-returns
-returns c = c.lowest-outside.ensures
+returns c = c.lowest_outside.ensures
 
-pub lowest-bound-spec : {M : Type 1} → statement M
-lowest-bound-spec = tie.close (tie.spec (λ c κs. search rules) returns)
+pub lowest_bound_spec : {M : Type 1} → statement M
+lowest_bound_spec = tie.close (tie.spec
+    (λ c κs. search rules)
+    returns)

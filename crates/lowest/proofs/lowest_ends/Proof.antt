@@ -8,32 +8,32 @@ use Rattle.lowest.proofs.Scan.{KeptBelow, kept_none, kept_more, kept_broken, kep
 use Rattle.lowest.proofs.lowest_ends.Statement.{statement}
 use Rattle.lowest.proofs.lowest_ends.Tie as tie
 
-abbrev invariant-loop : tie.invariant-loop
+abbrev invariant-loop : tie.invariant-loop-e
 invariant-loop s row column e₀ e = KeptBelow (length row) (λ k. ends_in_range s.kind s.rows s.columns (get_or row k 0) (get_or column k 0)) e
 
-abbrev decreases-loop : tie.decreases-loop
+abbrev decreases-loop : tie.decreases-loop-e
 decreases-loop s row column e₀ e = length row - e
 
-loop-holds : tie.Need-loop-init invariant-loop decreases-loop
+loop-holds : tie.Need-loop-e-init invariant-loop decreases-loop
 loop-holds c = kept_none
 
-loop-again : tie.Need-loop-preserved invariant-loop decreases-loop
+loop-again : tie.Need-loop-e-preserved invariant-loop decreases-loop
 loop-again c =
     let at-loop-test = c.before.before.before.before in
-    let inv = at-loop-test.before.loop.invariant in
-    kept_more inv at-loop-test.loop-test.true (sym c.before.ends-in-range.ensures ∙ c.if1.true)
+    let inv = at-loop-test.loop-e.invariant in
+    kept_more inv at-loop-test.loop-e-test.true (sym c.ends_in_range.ensures ∙ c.if-ends_in_range.true)
 
-returns : tie.Need-returns invariant-loop decreases-loop
+returns : tie.Need-returns-else-ends_in_range invariant-loop decreases-loop
 returns c =
     let at-loop-test = c.before.before.before.before in
-    let inv = at-loop-test.before.loop.invariant in
-    kept_broken inv at-loop-test.loop-test.true (sym c.before.ends-in-range.ensures ∙ c.if1.false)
+    let inv = at-loop-test.loop-e.invariant in
+    kept_broken inv at-loop-test.loop-e-test.true (sym c.ends_in_range.ensures ∙ c.if-ends_in_range.false)
 
-returns-2 : tie.Need-returns-2 invariant-loop decreases-loop
-returns-2 c = kept_all c.before.loop.invariant c.loop-test.false
+returns-2 : tie.Need-returns invariant-loop decreases-loop
+returns-2 c = kept_all c.loop-e.invariant c.loop-e-test.false
 
-pub lowest-ends-spec : {M : Type 1} → statement M
-lowest-ends-spec =
+pub lowest_ends_spec : {M : Type 1} → statement M
+lowest_ends_spec =
     tie.close
     (tie.spec
     invariant-loop

@@ -13,10 +13,10 @@ use Rattle.lowest.proofs.Scan.{KeptBelow, kept_none, kept_more, kept_broken, kep
 use Rattle.lowest.proofs.lowest_outside.Statement.{statement}
 use Rattle.lowest.proofs.lowest_outside.Tie as tie
 
-abbrev invariant-loop : tie.invariant-loop
+abbrev invariant-loop : tie.invariant-loop-k
 invariant-loop values low high k₀ k = KeptBelow (length values) (λ j. between (to_z w32 low) (to_z w32 high) (get_or values j (pos 0))) k
 
-abbrev decreases-loop : tie.decreases-loop
+abbrev decreases-loop : tie.decreases-loop-k
 decreases-loop values low high k₀ k = length values - k
 
 -- The machine keeps the range, and the number that is tested.
@@ -29,41 +29,41 @@ searched s =
     (back w32 s.args.low s.ranges.low.sfits)
     (back w32 s.args.high s.ranges.high.sfits)
 
-test : (c : tie.After-in-range invariant-loop decreases-loop) →
+test : (c : tie.After-in_range invariant-loop decreases-loop) →
     let at-loop = c.before.before.before in
     let s = at-loop.before in
-    c.in-range.result
-    ≡ between (to_z w32 (of_z w32 s.args.low)) (to_z w32 (of_z w32 s.args.high)) (get_or s.args.values.now at-loop.loop.k (pos 0))
+    c.in_range.result
+    ≡ between (to_z w32 (of_z w32 s.args.low)) (to_z w32 (of_z w32 s.args.high)) (get_or s.args.values.now at-loop.loop-k.k (pos 0))
 test c =
     let at-loop = c.before.before.before in
     let s = at-loop.before in
-    c.in-range.ensures
+    c.in_range.ensures
     ∙ ap (between (to_z w32 (of_z w32 s.args.low)) (to_z w32 (of_z w32 s.args.high)))
-    (back w32 (get_or s.args.values.now at-loop.loop.k (pos 0)) c.before.in-range-arg.given)
+    (back w32 (get_or s.args.values.now at-loop.loop-k.k (pos 0)) c.in_range-arg-1.given)
 
-loop-holds : tie.Need-loop-init invariant-loop decreases-loop
+loop-holds : tie.Need-loop-k-init invariant-loop decreases-loop
 loop-holds c = kept_none
 
-loop-again : tie.Need-loop-preserved invariant-loop decreases-loop
+loop-again : tie.Need-loop-k-preserved invariant-loop decreases-loop
 loop-again c =
     let at-loop-test = c.before.before.before in
-    let inv = at-loop-test.before.loop.invariant in
-    kept_more inv at-loop-test.loop-test.true (sym (test c.before) ∙ c.if1.true)
+    let inv = at-loop-test.loop-k.invariant in
+    kept_more inv at-loop-test.loop-k-test.true (sym (test c.before) ∙ c.if-in_range.true)
 
-returns : tie.Need-returns invariant-loop decreases-loop
+returns : tie.Need-returns-else-in_range invariant-loop decreases-loop
 returns c =
     let at-loop-test = c.before.before.before in
     let at-loop = at-loop-test.before in
     let start = at-loop.before in
-    kept_broken at-loop.loop.invariant at-loop-test.loop-test.true (sym (test c.before) ∙ c.if1.false) ∙ searched start
+    kept_broken at-loop.loop-k.invariant at-loop-test.loop-k-test.true (sym (test c.before) ∙ c.if-in_range.false) ∙ searched start
 
-returns-2 : tie.Need-returns-2 invariant-loop decreases-loop
+returns-2 : tie.Need-returns invariant-loop decreases-loop
 returns-2 c =
     let start = c.before.before in
-    kept_all c.before.loop.invariant c.loop-test.false ∙ searched start
+    kept_all c.loop-k.invariant c.loop-k-test.false ∙ searched start
 
-pub lowest-outside-spec : {M : Type 1} → statement M
-lowest-outside-spec =
+pub lowest_outside_spec : {M : Type 1} → statement M
+lowest_outside_spec =
     tie.close
     (tie.spec
     invariant-loop

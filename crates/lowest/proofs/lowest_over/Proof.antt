@@ -12,47 +12,47 @@ use Rattle.lowest.proofs.Scan.{KeptBelow, kept_none, kept_more, kept_broken, kep
 use Rattle.lowest.proofs.lowest_over.Statement.{statement}
 use Rattle.lowest.proofs.lowest_over.Tie as tie
 
-abbrev invariant-loop : tie.invariant-loop
+abbrev invariant-loop : tie.invariant-loop-v
 invariant-loop bound degree v₀ v = KeptBelow (length bound) (λ k. le_z (pos (get_or degree k 0)) (get_or bound k (pos 0))) v
 
-abbrev decreases-loop : tie.decreases-loop
+abbrev decreases-loop : tie.decreases-loop-v
 decreases-loop bound degree v₀ v = length bound - v
 
 -- What the comparison answers.
-answer : (c : tie.After-at-most invariant-loop decreases-loop) →
+answer : (c : tie.After-at_most invariant-loop decreases-loop) →
     let at-loop = c.before.before.before.before.before in
-    let args = at-loop.before.args in
-    c.at_most.result ≡ le_z (pos (get_or args.t1 at-loop.loop.v 0)) (get_or args.bound.now at-loop.loop.v (pos 0))
+    let args = at-loop.args in
+    c.at_most.result ≡ le_z (pos (get_or args.t1 at-loop.loop-v.v 0)) (get_or args.bound.now at-loop.loop-v.v (pos 0))
 answer c =
-    let widen = c.before.widen in
-    let widen-arg = c.before.before.widen-arg in
+    let widen = c.widen in
+    let widen-arg = c.widen-arg-1 in
     let at-whole = c.before.before.before in
     let at-loop = at-whole.before.before in
-    let args = at-loop.before.args in
+    let args = at-loop.args in
     c.at_most.ensures
-    ∙ ap₂ le_z (back w64 at-whole.whole.result at-whole.whole.type-inv ∙ at-whole.whole.ensures.0)
-    (back w64 widen.result widen.type-inv ∙ widen.ensures.0 ∙ back w32 (get_or args.bound.now at-loop.loop.v (pos 0)) widen-arg.given)
+    ∙ ap₂ le_z (back w64 at-whole.whole.result at-whole.whole.type_inv ∙ at-whole.whole.ensures.0)
+    (back w64 widen.result widen.type_inv ∙ widen.ensures.0 ∙ back w32 (get_or args.bound.now at-loop.loop-v.v (pos 0)) widen-arg.given)
 
-loop-holds : tie.Need-loop-init invariant-loop decreases-loop
+loop-holds : tie.Need-loop-v-init invariant-loop decreases-loop
 loop-holds c = kept_none
 
-loop-again : tie.Need-loop-preserved invariant-loop decreases-loop
+loop-again : tie.Need-loop-v-preserved invariant-loop decreases-loop
 loop-again c =
     let at-loop-test = c.before.before.before.before.before in
-    let inv = at-loop-test.before.loop.invariant in
-    kept_more inv at-loop-test.loop-test.true (sym (answer c.before) ∙ c.if1.true)
+    let inv = at-loop-test.loop-v.invariant in
+    kept_more inv at-loop-test.loop-v-test.true (sym (answer c.before) ∙ c.if-at_most.true)
 
-returns : tie.Need-returns invariant-loop decreases-loop
+returns : tie.Need-returns-else-at_most invariant-loop decreases-loop
 returns c =
     let at-loop-test = c.before.before.before.before.before in
-    let inv = at-loop-test.before.loop.invariant in
-    kept_broken inv at-loop-test.loop-test.true (sym (answer c.before) ∙ c.if1.false)
+    let inv = at-loop-test.loop-v.invariant in
+    kept_broken inv at-loop-test.loop-v-test.true (sym (answer c.before) ∙ c.if-at_most.false)
 
-returns-2 : tie.Need-returns-2 invariant-loop decreases-loop
-returns-2 c = kept_all c.before.loop.invariant c.loop-test.false
+returns-2 : tie.Need-returns invariant-loop decreases-loop
+returns-2 c = kept_all c.loop-v.invariant c.loop-v-test.false
 
-pub lowest-over-spec : {M : Type 1} → statement M
-lowest-over-spec =
+pub lowest_over_spec : {M : Type 1} → statement M
+lowest_over_spec =
     tie.close
     (tie.spec
     invariant-loop

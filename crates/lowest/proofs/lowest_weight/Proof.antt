@@ -4,7 +4,9 @@ use Rattle.lowest.proofs.lowest_weight.Statement.{statement}
 use Rattle.lowest.proofs.lowest_weight.Tie as tie
 
 returns : tie.Need-returns
-returns c = c.lowest-outside.ensures
+returns c = c.lowest_outside.ensures
 
-pub lowest-weight-spec : {M : Type 1} → statement M
-lowest-weight-spec = tie.close (tie.spec (λ c κs. search rules) returns)
+pub lowest_weight_spec : {M : Type 1} → statement M
+lowest_weight_spec = tie.close (tie.spec
+    (λ c κs. search rules)
+    returns)

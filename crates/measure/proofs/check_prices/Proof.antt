@@ -23,53 +23,53 @@ degrees s = each Degree (length s.args.bound.now) (λ v. le_z (pos (get_or s.arg
 abbrev prices : tie.Start → Test
 prices s = price_test (prices_of s.args.vertex-price.now s.args.edge-price.now 0 s.args.set-price.now [] [])
 
-refused-item-requires : tie.Need-refused-item-requires
+refused-item-requires : tie.Need-refused_item-requires
 refused-item-requires c κs =
-    let at-lowest-over = c.before.before.before in
+    let at-lowest-over = c.before in
     let s = at-lowest-over.before in
-    place_fits (degrees s).items (degrees s).keeps (sym at-lowest-over.lowest-over.ensures ∙ ap lowest_says c.before.v.given.1)
+    place_fits (degrees s).items (degrees s).keeps (sym at-lowest-over.lowest_over.ensures ∙ ap lowest_says c.in-At.is)
     (omega (arith, s.requires.0))
 
-returns : tie.Need-returns
+returns : tie.Need-returns-in-At
 returns c =
     let v = c.before.before.v in
-    let at-lowest-over = c.before.before.before.before in
+    let at-lowest-over = c.before.before in
     let start = at-lowest-over.before in
-    c.refused-item.ensures
-    ∙ first_refuses (degrees start) (prices start) (yields tt) (sym at-lowest-over.lowest-over.ensures ∙ ap lowest_says v.given.1)
+    c.refused_item.ensures
+    ∙ first_refuses (degrees start) (prices start) (yields tt) (sym at-lowest-over.lowest_over.ensures ∙ ap lowest_says v.given.1)
 
-refused-item-requires-2 : tie.Need-refused-item-requires-2
+refused-item-requires-2 : tie.Need-refused_item-requires-in-At-lowest_price
 refused-item-requires-2 c κs =
-    let at-lowest-price = c.before.before.before in
-    let s = at-lowest-price.before.before.before.before in
+    let at-lowest-price = c.before in
+    let s = at-lowest-price.before.before.before in
     let v = s.args.vertex-price.now in
     let e = s.args.edge-price.now in
     let o = s.args.set-price.now in
-    place_fits (prices s).items (prices s).keeps (sym at-lowest-price.lowest-price.ensures ∙ ap lowest_says c.before.k.given.1)
+    place_fits (prices s).items (prices s).keeps (sym at-lowest-price.lowest_price.ensures ∙ ap lowest_says c.in-At-lowest_price.is)
     (omega (arith, s.requires.1, length-append v (e ++ o), length-append e o))
 
-returns-2 : tie.Need-returns-2
+returns-2 : tie.Need-returns-in-At-lowest_price
 returns-2 c =
     let k = c.before.before.k in
-    let at-lowest-price = c.before.before.before.before in
+    let at-lowest-price = c.before.before in
     let at-enum-told = at-lowest-price.before in
-    let at-lowest-over = at-enum-told.before.before in
+    let at-lowest-over = at-enum-told.before in
     let s = at-lowest-over.before in
-    c.refused-item2.ensures
-    ∙ second_refuses (degrees s) (prices s) (yields tt) (sym at-lowest-over.lowest-over.ensures ∙ ap lowest_says at-enum-told.enum_told.given.1)
-    (sym at-lowest-price.lowest-price.ensures ∙ ap lowest_says k.given.1)
+    c.refused_item-in-At-lowest_price.ensures
+    ∙ second_refuses (degrees s) (prices s) (yields tt) (sym at-lowest-over.lowest_over.ensures ∙ ap lowest_says at-enum-told.in_default.is)
+    (sym at-lowest-price.lowest_price.ensures ∙ ap lowest_says k.given.1)
 
-returns-3 : tie.Need-returns-3
+returns-3 : tie.Need-returns
 returns-3 c =
-    let lowest-price = c.before.before.lowest-price in
-    let at-enum-told = c.before.before.before in
-    let at-lowest-over = at-enum-told.before.before in
+    let lowest-price = c.lowest_price in
+    let at-enum-told = c.before.before in
+    let at-lowest-over = at-enum-told.before in
     let s = at-lowest-over.before in
-    none_refuses (degrees s) (prices s) (yields tt) (sym at-lowest-over.lowest-over.ensures ∙ ap lowest_says at-enum-told.enum_told.given.1)
-    (sym lowest-price.ensures ∙ ap lowest_says c.enum-told2.given.1)
+    none_refuses (degrees s) (prices s) (yields tt) (sym at-lowest-over.lowest_over.ensures ∙ ap lowest_says at-enum-told.in_default.is)
+    (sym lowest-price.ensures ∙ ap lowest_says c.in_default-lowest_price.is)
 
-pub check-prices-spec : {M : Type 1} → statement M
-check-prices-spec =
+pub check_prices_spec : {M : Type 1} → statement M
+check_prices_spec =
     tie.close
     (tie.spec
     (λ c κs. search rules)

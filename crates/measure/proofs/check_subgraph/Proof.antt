@@ -33,88 +33,88 @@ abbrev marks : tie.Start → Test
 marks s = mark_test (graph s) s.args.chosen.now
 
 -- The graph has passed, and the two tests say.
-abbrev start : tie.After-enum-told → tie.Start
-start c = c.before.before.before.before.before.before
+abbrev start : tie.In_default → tie.Start
+start c = c.before.before.before.before.before
 
-passed : (c : tie.After-enum-told) → Passed (graph (start c)) × ((start c).args.others ≡ true)
+passed : (c : tie.In_default) → Passed (graph (start c)) × ((start c).args.others ≡ true)
 passed c =
-    let check-lent = c.before.before.check-lent in
-    lent_passed (graph (start c)) (start c).args.others (yields tt) tt (sym check-lent.ensures ∙ ap check_says c.enum_told.given.1)
+    let check-lent = c.check_lent-graph in
+    lent_passed (graph (start c)) (start c).args.others (yields tt) tt (sym check-lent.ensures ∙ ap check_says c.in_default.is)
 
-bound-say : (c : tie.After-lowest-bound) {m : Lowest} → c.lowest-bound.result ≡ m →
+bound-say : (c : tie.After-lowest_bound) {m : Lowest} → c.lowest_bound.result ≡ m →
     lowest (bounds (start c.before)).items (bounds (start c.before)).keeps ≡ lowest_says m
 bound-say c is =
     let s = start c.before in
-    says (bounds s).keeps {n = length s.args.bound.now} c.lowest-bound.ensures is (s.pre (passed c.before).1).0
+    says (bounds s).keeps {n = length s.args.bound.now} c.lowest_bound.ensures is (s.requires (passed c.before).1).0
 
-abbrev earlier : tie.After-lowest-mark → tie.After-enum-told
-earlier c = c.before.before.before.before
+abbrev earlier : tie.After-lowest_mark → tie.In_default
+earlier c = c.before.before.before
 
-mark-say : (c : tie.After-lowest-mark) {m : Lowest} → c.lowest-mark.result ≡ m →
+mark-say : (c : tie.After-lowest_mark) {m : Lowest} → c.lowest_mark.result ≡ m →
     lowest (marks (start (earlier c))).items (marks (start (earlier c))).keeps ≡ lowest_says m
 mark-say c is =
     let s = start (earlier c) in
-    says (marks s).keeps {n = length s.args.chosen.now} c.lowest-mark.ensures is (s.pre (passed (earlier c)).1).1
+    says (marks s).keeps {n = length s.args.chosen.now} c.lowest_mark.ensures is (s.requires (passed (earlier c)).1).1
 
-returns : tie.Need-returns
+returns : tie.Need-returns-in-Refused
 returns c =
-    let at-check-lent = c.before.before.before in
+    let at-check-lent = c.before in
     let s = at-check-lent.before.before.before.before in
-    part-refuses (graphs s) (bounds s ∷ marks s ∷ []) (yields tt) at-check-lent.check-lent.ensures c.before.graph.given.1
+    part-refuses (graphs s) (bounds s ∷ marks s ∷ []) (yields tt) at-check-lent.check_lent-graph.ensures c.in-Refused.is
 
-refused-item-requires : tie.Need-refused-item-requires
+refused-item-requires : tie.Need-refused_item-requires
 refused-item-requires c κs =
-    let at-lowest-bound = c.before.before.before in
+    let at-lowest-bound = c.before in
     let at-enum-told = at-lowest-bound.before in
-    let s = at-enum-told.before.before.before.before.before.before in
-    place_fits (bounds s).items (bounds s).keeps (bound-say at-lowest-bound c.before.v.given.1)
+    let s = at-enum-told.before.before.before.before.before in
+    place_fits (bounds s).items (bounds s).keeps (bound-say at-lowest-bound c.in-At.is)
     (omega (arith, (passed at-enum-told).0.sound.sizes.order))
 
-returns-2 : tie.Need-returns-2
+returns-2 : tie.Need-returns-in-At
 returns-2 c =
     let v = c.before.before.v in
-    let at-lowest-bound = c.before.before.before.before in
+    let at-lowest-bound = c.before.before in
     let at-enum-told = at-lowest-bound.before in
-    let at-check-lent = at-enum-told.before.before in
+    let at-check-lent = at-enum-told.before in
     let s = at-check-lent.before.before.before.before in
-    c.refused-item.ensures
-    ∙ part-passes (graphs s) (bounds s ∷ marks s ∷ []) (yields tt) at-check-lent.check-lent.ensures at-enum-told.enum_told.given.1
+    c.refused_item.ensures
+    ∙ part-passes (graphs s) (bounds s ∷ marks s ∷ []) (yields tt) at-check-lent.check_lent-graph.ensures at-enum-told.in_default.is
     (first_refuses (bounds s) (marks s) (yields tt) (bound-say at-lowest-bound v.given.1))
 
-refused-item-requires-2 : tie.Need-refused-item-requires-2
+refused-item-requires-2 : tie.Need-refused_item-requires-in-At-lowest_mark
 refused-item-requires-2 c κs =
-    let at-lowest-mark = c.before.before.before in
-    let at-enum-told = at-lowest-mark.before.before.before.before in
-    let s = at-enum-told.before.before.before.before.before.before in
-    place_fits (marks s).items (marks s).keeps (mark-say at-lowest-mark c.before.e.given.1) (omega (arith, (passed at-enum-told).0.sound.sizes.few))
+    let at-lowest-mark = c.before in
+    let at-enum-told = at-lowest-mark.before.before.before in
+    let s = at-enum-told.before.before.before.before.before in
+    place_fits (marks s).items (marks s).keeps (mark-say at-lowest-mark c.in-At-lowest_mark.is) (omega (arith, (passed at-enum-told).0.sound.sizes.few))
 
-returns-3 : tie.Need-returns-3
+returns-3 : tie.Need-returns-in-At-lowest_mark
 returns-3 c =
     let e = c.before.before.e in
-    let at-lowest-mark = c.before.before.before.before in
-    let at-enum-told2 = at-lowest-mark.before in
-    let at-lowest-bound = at-enum-told2.before.before in
-    let at-enum-told = at-lowest-bound.before in
-    let at-check-lent = at-enum-told.before.before in
-    let s = at-check-lent.before.before.before.before in
-    c.refused-item2.ensures
-    ∙ part-passes (graphs s) (bounds s ∷ marks s ∷ []) (yields tt) at-check-lent.check-lent.ensures at-enum-told.enum_told.given.1
-    (second_refuses (bounds s) (marks s) (yields tt) (bound-say at-lowest-bound at-enum-told2.enum-told2.given.1) (mark-say at-lowest-mark e.given.1))
-
-returns-4 : tie.Need-returns-4
-returns-4 c =
     let at-lowest-mark = c.before.before in
     let at-enum-told2 = at-lowest-mark.before in
-    let at-lowest-bound = at-enum-told2.before.before in
+    let at-lowest-bound = at-enum-told2.before in
     let at-enum-told = at-lowest-bound.before in
-    let at-check-lent = at-enum-told.before.before in
+    let at-check-lent = at-enum-told.before in
     let s = at-check-lent.before.before.before.before in
-    part-passes (graphs s) (bounds s ∷ marks s ∷ []) (yields tt) at-check-lent.check-lent.ensures at-enum-told.enum_told.given.1
-    (none_refuses (bounds s) (marks s) (yields tt) (bound-say at-lowest-bound at-enum-told2.enum-told2.given.1)
-    (mark-say at-lowest-mark c.enum-told3.given.1))
+    c.refused_item-in-At-lowest_mark.ensures
+    ∙ part-passes (graphs s) (bounds s ∷ marks s ∷ []) (yields tt) at-check-lent.check_lent-graph.ensures at-enum-told.in_default.is
+    (second_refuses (bounds s) (marks s) (yields tt) (bound-say at-lowest-bound at-enum-told2.in_default-lowest_bound.is) (mark-say at-lowest-mark e.given.1))
 
-pub check-subgraph-spec : {M : Type 1} → statement M
-check-subgraph-spec =
+returns-4 : tie.Need-returns
+returns-4 c =
+    let at-lowest-mark = c.before in
+    let at-enum-told2 = at-lowest-mark.before in
+    let at-lowest-bound = at-enum-told2.before in
+    let at-enum-told = at-lowest-bound.before in
+    let at-check-lent = at-enum-told.before in
+    let s = at-check-lent.before.before.before.before in
+    part-passes (graphs s) (bounds s ∷ marks s ∷ []) (yields tt) at-check-lent.check_lent-graph.ensures at-enum-told.in_default.is
+    (none_refuses (bounds s) (marks s) (yields tt) (bound-say at-lowest-bound at-enum-told2.in_default-lowest_bound.is)
+    (mark-say at-lowest-mark c.in_default-lowest_mark.is))
+
+pub check_subgraph_spec : {M : Type 1} → statement M
+check_subgraph_spec =
     tie.close
     (tie.spec
     (λ c κs. search rules)

@@ -17,41 +17,41 @@ prices s =
     prices_of s.args.vertex-price.now s.args.edge-price.now s.args.sets s.args.set-price.now s.args.set-vertices.now
     s.args.set-edges.now
 
-check-subgraph-requires : tie.Need-check-subgraph-requires
+check-subgraph-requires : tie.Need-check_subgraph-subgraph-requires
 check-subgraph-requires c κs =
     let s = c.before.before.before.before.before.before in
     λ t.
-    let h = others_hold (graph s) s.args.bound.now s.args.chosen.now (prices s) (sym c.others-match.ensures ∙ t) in
+    let h = others_hold (graph s) s.args.bound.now s.args.chosen.now (prices s) (sym c.others_match-others.ensures ∙ t) in
     (h.bounds, h.marks)
 
 -- The start, from the place where the first tests are made.
-abbrev start : tie.After-check-subgraph → tie.Start
+abbrev start : tie.After-check_subgraph-subgraph → tie.Start
 start c = c.before.before.before.before.before.before.before
 
-returns : tie.Need-returns
+returns : tie.Need-returns-in-Refused
 returns c =
-    let k = c.before.before.before in
-    let r = k.check-subgraph in
+    let k = c.before in
+    let r = k.check_subgraph-subgraph in
     let s = start k in
-    ap told (first_refused (graph s) s.args.bound.now s.args.chosen.now (prices s) r.result k.before.others-match.ensures r.ensures c.before.subgraph.given.1)
+    ap told (first_refused (graph s) s.args.bound.now s.args.chosen.now (prices s) r.result k.others_match-others.ensures r.ensures c.in-Refused.is)
 
-measure-passed-requires : tie.Need-measure-passed-requires
+measure-passed-requires : tie.Need-measure_passed-requires
 measure-passed-requires c κs =
-    let k = c.before.before in
-    let r = k.check-subgraph in
+    let k = c.before in
+    let r = k.check_subgraph-subgraph in
     let s = start k in
-    shown (graph s) s.args.bound.now s.args.chosen.now (prices s) r.result k.before.others-match.ensures r.ensures c.enum_told.given.1
+    shown (graph s) s.args.bound.now s.args.chosen.now (prices s) r.result k.others_match-others.ensures r.ensures c.in_default.is
 
-returns-2 : tie.Need-returns-2
+returns-2 : tie.Need-returns
 returns-2 c =
-    let k = c.before.before.before in
-    let r = k.check-subgraph in
+    let k = c.before.before in
+    let r = k.check_subgraph-subgraph in
     let s = start k in
-    c.measure-passed.ensures
-    ∙ ap told (later_decide (graph s) s.args.bound.now s.args.chosen.now (prices s) r.result k.before.others-match.ensures r.ensures c.before.enum_told.given.1)
+    c.measure_passed.ensures
+    ∙ ap told (later_decide (graph s) s.args.bound.now s.args.chosen.now (prices s) r.result k.others_match-others.ensures r.ensures c.in_default.is)
 
-pub measure-spec : {M : Type 1} → statement M
-measure-spec =
+pub measure_spec : {M : Type 1} → statement M
+measure_spec =
     tie.close
     (tie.spec
     (λ c κs. search rules)

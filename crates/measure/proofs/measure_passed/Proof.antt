@@ -40,80 +40,80 @@ abbrev answer : tie.Start → Outcome Measures
 answer s = yields (measures (graph s) s.args.bound.now s.args.chosen.now (prices s))
 
 -- What the tests of the degrees and the prices say, and what the call yields after them.
-abbrev start : tie.After-check-prices → tie.Start
+abbrev start : tie.After-check_prices → tie.Start
 start c = c.before.before.before.before.before.before.before
 
-prices-say : (c : tie.After-check-prices) →
+prices-say : (c : tie.After-check_prices) →
     let s = start c in
-    check_says c.check-prices.result ≡ passing (price_tests (graph s) s.args.bound.now s.args.chosen.now (prices s)) (yields tt)
+    check_says c.check_prices.result ≡ passing (price_tests (graph s) s.args.bound.now s.args.chosen.now (prices s)) (yields tt)
 prices-say c =
     let s = start c in
-    let d = c.before.degrees in
-    degrees_say (graph s) s.args.bound.now s.args.chosen.now (prices s) d.result c.check-prices.result d.ensures
-    s.pre.passed.sound.sizes.order s.pre.bounded c.check-prices.ensures
+    let d = c.degrees-degree in
+    degrees_say (graph s) s.args.bound.now s.args.chosen.now (prices s) d.result c.check_prices.result d.ensures
+    s.requires.passed.sound.sizes.order s.requires.bounded c.check_prices.ensures
 
-decide : (c : tie.After-enum-told) {v : Outcome Measures} →
-    let s = start c.before.before in
+decide : (c : tie.In_default) {v : Outcome Measures} →
+    let s = start c.before in
     v ≡ passing (oddSets s ∷ covers s ∷ []) (answer s) → v ≡ yields_later (graph s) s.args.bound.now s.args.chosen.now (prices s)
 decide c e =
-    let p = c.before.before in
+    let p = c.before in
     let s = start p in
-    last_decide (graph s) s.args.bound.now s.args.chosen.now (prices s) p.check-prices.result (prices-say p) c.enum_told.given.1 e
+    last_decide (graph s) s.args.bound.now s.args.chosen.now (prices s) p.check_prices.result (prices-say p) c.in_default.is e
 
 -- What the test of the odd sets says.
-abbrev start2 : tie.After-lowest-set → tie.Start
-start2 c = start c.before.before.before.before
+abbrev start2 : tie.After-lowest_set → tie.Start
+start2 c = start c.before.before.before
 
-set-say : (c : tie.After-lowest-set) {m : Lowest} → c.lowest_set.result ≡ m → lowest (oddSets (start2 c)).items (oddSets (start2 c)).keeps ≡ lowest_says m
+set-say : (c : tie.After-lowest_set) {m : Lowest} → c.lowest_set.result ≡ m → lowest (oddSets (start2 c)).items (oddSets (start2 c)).keeps ≡ lowest_says m
 set-say c is =
     let s = start2 c in
-    let t = c.before.load-table in
+    let t = c.load_table-load in
     sets_say (graph s) s.args.bound.now s.args.chosen.now (prices s) t.result t.ensures c.lowest_set.ensures is
 
-returns : tie.Need-returns
+returns : tie.Need-returns-in-Refused
 returns c =
-    let p = c.before.before.before in
+    let p = c.before in
     let s = start p in
-    ap told (prices_refused (graph s) s.args.bound.now s.args.chosen.now (prices s) p.check-prices.result (prices-say p) c.before.r.given.1)
+    ap told (prices_refused (graph s) s.args.bound.now s.args.chosen.now (prices s) p.check_prices.result (prices-say p) c.in-Refused.is)
 
-refused-measure-requires : tie.Need-refused-measure-requires
+refused-measure-requires : tie.Need-refused_measure-requires
 refused-measure-requires c κs =
-    let l = c.before.before.before in
+    let l = c.before in
     let s = start2 l in
-    place_fits (oddSets s).items (oddSets s).keeps (set-say l c.before.k.given.1) (omega arith)
+    place_fits (oddSets s).items (oddSets s).keeps (set-say l c.in-At.is) (omega arith)
 
-returns-2 : tie.Need-returns-2
+returns-2 : tie.Need-returns-in-At
 returns-2 c =
-    let l = c.before.before.before.before in
-    let s = start2 l in
-    ap measure_says c.refused-measure.ensures
-    ∙ ap told
-    (ap (refuses OddSet) (add-one _)
-    ∙ decide l.before.before (first_refuses (oddSets s) (covers s) (answer s) (set-say l c.before.before.k.given.1)))
-
-covered-table-requires : tie.Need-covered-table-requires
-covered-table-requires c κs =
     let l = c.before.before in
     let s = start2 l in
-    let h = s.pre in
-    let few = few-sets (graph s) s.args.bound.now s.args.chosen.now (prices s) (set-say l c.enum-told2.given.1) in
+    ap measure_says c.refused_measure.ensures
+    ∙ ap told
+    (ap (refuses OddSet) (add-one _)
+    ∙ decide l.before.before (first_refuses (oddSets s) (covers s) (answer s) (set-say l c.in-At.is)))
+
+covered-table-requires : tie.Need-covered_table-covered-requires
+covered-table-requires c κs =
+    let l = c.before in
+    let s = start2 l in
+    let h = s.requires in
+    let few = few-sets (graph s) s.args.bound.now s.args.chosen.now (prices s) (set-say l c.in_default-lowest_set.is) in
     ((h.passed.sound, h.marks), (few, h.lengths.set_vertices, h.lengths.set_edges))
 
-measure-tabled-requires : tie.Need-measure-tabled-requires
+measure-tabled-requires : tie.Need-measure_tabled-requires
 measure-tabled-requires c κs =
-    let l = c.before.before.before in
+    let l = c.before.before in
     let s = start2 l in
-    let h = s.pre in
+    let h = s.requires in
     let z = h.passed.sound.sizes in
-    let few = few-sets (graph s) s.args.bound.now s.args.chosen.now (prices s) (set-say l c.before.enum-told2.given.1) in
+    let few = few-sets (graph s) s.args.bound.now s.args.chosen.now (prices s) (set-say l c.in_default-lowest_set.is) in
     let at-enum-told = l.before.before in
-    let at-check-prices = at-enum-told.before.before in
-    let d = at-check-prices.before.degrees in
-    let q = at-check-prices.check-prices in
-    let load = l.before.load-table.ensures in
-    let covered = c.covered-table.ensures in
+    let at-check-prices = at-enum-told.before in
+    let d = at-check-prices.degrees-degree in
+    let q = at-check-prices.check_prices in
+    let load = l.load_table-load.ensures in
+    let covered = c.covered_table-covered.ensures in
     let small = degrees_small (graph s) s.args.bound.now s.args.chosen.now (prices s) d.result q.result d.ensures z.order
-    h.bounded q.ensures at-enum-told.enum_told.given.1 in (
+    h.bounded q.ensures at-enum-told.in_default.is in (
       h,
       record {
         few = few;
@@ -127,16 +127,16 @@ measure-tabled-requires c κs =
       },
     )
 
-returns-3 : tie.Need-returns-3
+returns-3 : tie.Need-returns
 returns-3 c =
-    let l = c.before.before.before.before in
+    let l = c.before.before.before in
     let s = start2 l in
-    c.measure-tabled.ensures
+    c.measure_tabled.ensures
     ∙ ap told
-    (decide l.before.before (sym (passing-none (oddSets s) (covers s ∷ []) (answer s) (set-say l c.before.before.enum-told2.given.1))))
+    (decide l.before.before (sym (passing-none (oddSets s) (covers s ∷ []) (answer s) (set-say l c.in_default-lowest_set.is))))
 
-pub measure-passed-spec : {M : Type 1} → statement M
-measure-passed-spec =
+pub measure_passed_spec : {M : Type 1} → statement M
+measure_passed_spec =
     tie.close
     (tie.spec
     (λ c κs. search rules)

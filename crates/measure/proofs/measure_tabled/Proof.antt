@@ -34,32 +34,32 @@ abbrev answer : tie.Start → Outcome Measures
 answer s = yields (measures (graph s) s.args.bound.now s.args.chosen.now (prices s))
 
 -- What the test of the cover says.
-abbrev start : tie.After-lowest-uncovered → tie.Start
+abbrev start : tie.After-lowest_uncovered → tie.Start
 start c = c.before.before.before.before.before.before.before.before.before
 
-uncovered-say : (c : tie.After-lowest-uncovered) {m : Lowest} → c.lowest-uncovered.result ≡ m →
+uncovered-say : (c : tie.After-lowest_uncovered) {m : Lowest} → c.lowest_uncovered.result ≡ m →
     lowest (covers (start c)).items (covers (start c)).keeps ≡ lowest_says m
 uncovered-say c is =
     let s = start c in
-    let t = c.before.before.cover-table in
-    cover_say (graph s) s.args.bound.now s.args.chosen.now (prices s) t.new.1.1.1.1.1.1.1.1.1.0 t.ensures c.lowest-uncovered.ensures is
+    let t = c.cover_table in
+    cover_say (graph s) s.args.bound.now s.args.chosen.now (prices s) t.new.1.1.1.1.1.1.1.1.1.0 t.ensures c.lowest_uncovered.ensures is
 
-refused-measure-requires : tie.Need-refused-measure-requires
+refused-measure-requires : tie.Need-refused_measure-requires
 refused-measure-requires c κs =
-    let u = c.before.before.before in
+    let u = c.before in
     let s = start u in
-    place_fits (covers s).items (covers s).keeps (uncovered-say u c.before.e.given.1) (omega (arith, s.pre.0.passed.sound.sizes.few))
+    place_fits (covers s).items (covers s).keeps (uncovered-say u c.in-At.is) (omega (arith, s.requires.0.passed.sound.sizes.few))
 
-returns : tie.Need-returns
+returns : tie.Need-returns-in-At
 returns c =
-    let u = c.before.before.before.before in
+    let u = c.before.before in
     let s = start u in
-    ap measure_says c.refused-measure.ensures
-    ∙ ap told (ap (refuses Uncovered) (add-one _) ∙ sym (passing-found (covers s) [] (answer s) _ (uncovered-say u c.before.before.e.given.1)))
+    ap measure_says c.refused_measure.ensures
+    ∙ ap told (ap (refuses Uncovered) (add-one _) ∙ sym (passing-found (covers s) [] (answer s) _ (uncovered-say u c.in-At.is)))
 
 numbers-requires : tie.Need-numbers-requires
 numbers-requires c κs =
-    let p = c.before.before.before.before.before.before.before.before.before.before.before.before.requires in
+    let p = c.requires in
     let h = p.0 in
     let z = h.passed.sound.sizes in
     let l = h.lengths in (
@@ -67,21 +67,21 @@ numbers-requires c κs =
       (
         record { vertex_long = l.vertex; edge_long = l.edge; few = p.1.few; set_long = l.set },
         p.1.addable,
-        λ e b. (c.before.before.before.before.before.cover-table.ensures e b).1,
+        λ e b. (c.cover_table.ensures e b).1,
       ),
     )
 
-returns-2 : tie.Need-returns-2
+returns-2 : tie.Need-returns
 returns-2 c =
-    let u = c.before.before.before.before in
+    let u = c.before.before.before in
     let s = start u in
-    let t = c.before.before.before.before.before.before.cover-table in
+    let t = c.cover_table in
     ap told
-    (ap yields (c.numbers.ensures ∙ measures-by (graph s) s.args.bound.now s.args.chosen.now (prices s) t.new.1.1.1.1.1.1.1.1.1.0 s.pre.1 t.ensures)
-    ∙ sym (passing-none (covers s) [] (answer s) (uncovered-say u c.before.before.enum_told.given.1)))
+    (ap yields (c.numbers.ensures ∙ measures-by (graph s) s.args.bound.now s.args.chosen.now (prices s) t.new.1.1.1.1.1.1.1.1.1.0 s.requires.1 t.ensures)
+    ∙ sym (passing-none (covers s) [] (answer s) (uncovered-say u c.in_default.is)))
 
-pub measure-tabled-spec : {M : Type 1} → statement M
-measure-tabled-spec =
+pub measure_tabled_spec : {M : Type 1} → statement M
+measure_tabled_spec =
     tie.close
     (tie.spec
     (λ c κs. search rules)

@@ -30,20 +30,20 @@ fit z l = fits_within w32 (z +ℤ twoLevels) {n = top_value} (go (z +ℤ twoLeve
 through : (z : ℤ) → mag z < 2 ^ hbits w32 → SFits w32 (z +ℤ twoLevels) → to_z w32 (of_z w32 (to_z w32 (of_z w32 z) +ℤ twoLevels)) ≡ z +ℤ twoLevels
 through z h f = simp (back w32 z h, to_z-of_z w32 (z +ℤ twoLevels) f)
 
-add-natural-part : tie.Need-overflow-add-natural-part
+add-natural-part : tie.Need-overflow_add-weight
 add-natural-part c =
     let start = c.before in
     let weight = get_or start.args.weight.now start.args.e (pos 0) in
-    simp (back w32 weight c.natural-part-arg.given) (fit weight start.requires.1)
+    simp (back w32 weight c.natural_part-arg-1.given) (fit weight start.requires.1)
 
 returns : tie.Need-returns
 returns c =
     let start = c.before.before in
     let weight = get_or start.args.weight.now start.args.e (pos 0) in
-    c.natural-part.ensures ∙ ap up (through weight c.before.natural-part-arg.given (fit weight start.requires.1))
+    c.natural_part.ensures ∙ ap up (through weight c.natural_part-arg-1.given (fit weight start.requires.1))
 
-pub value-at-spec : {M : Type 1} → statement M
-value-at-spec =
+pub value_at_spec : {M : Type 1} → statement M
+value_at_spec =
     tie.close
     (tie.spec
     (λ c. search rules)

@@ -7,5 +7,7 @@ use Rattle.nodes.proofs.column_node.Tie as tie
 returns : tie.Need-returns
 returns c = omega arith
 
-pub column-node-spec : {M : Type 1} → statement M
-column-node-spec = tie.close (tie.spec (λ c. search rules) returns)
+pub column_node_spec : {M : Type 1} → statement M
+column_node_spec = tie.close (tie.spec
+    (λ c. search rules)
+    returns)

@@ -4,11 +4,14 @@ use borrow.Author.Rules.{rules}
 use Rattle.nodes.proofs.is_next.Statement.{statement}
 use Rattle.nodes.proofs.is_next.Tie as tie
 
-returns : tie.Need-returns
-returns c = next-zero c.before.args.node c.before.args.rows c.if1.true
+returns : tie.Need-returns-then-node-eq0
+returns c = next-zero c.args.node c.args.rows c.if-node-eq0.true
 
-returns-2 : tie.Need-returns-2
-returns-2 c = next-some c.before.args.node c.before.args.rows c.if1.false
+returns-2 : tie.Need-returns
+returns-2 c = next-some c.args.node c.args.rows c.if-node-eq0.false
 
-pub is-next-spec : {M : Type 1} → statement M
-is-next-spec = tie.close (tie.spec returns (λ c. search rules) returns-2)
+pub is_next_spec : {M : Type 1} → statement M
+is_next_spec = tie.close (tie.spec
+    returns
+    (λ c. search rules)
+    returns-2)

@@ -17,8 +17,10 @@ difference-requires c κs =
 returns : tie.Need-returns
 returns c =
     let s = c.before in
-    back w32 c.difference.result c.difference.type-inv ∙ c.difference.ensures
+    back w32 c.difference.result c.difference.type_inv ∙ c.difference.ensures
     ∙ ap (λ z. pos 0 -ℤ z) (back w32 s.args.cost s.ranges.cost.sfits) ∙ zero_minus s.args.cost
 
-pub weight-at-cost-spec : {M : Type 1} → statement M
-weight-at-cost-spec = tie.close (tie.spec difference-requires returns)
+pub weight_at_cost_spec : {M : Type 1} → statement M
+weight_at_cost_spec = tie.close (tie.spec
+    difference-requires
+    returns)

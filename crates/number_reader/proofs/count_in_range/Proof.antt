@@ -8,8 +8,11 @@ use Rattle.number_reader.proofs.count_in_range.Tie as tie
 
 returns : tie.Need-returns
 returns c =
-    let count = c.before.before.args.count in
-    c.both.ensures ∙ ap (λ n. leb 1 count && leb count n) c.before.most-numbers.ensures
+    let count = c.args.count in
+    c.both.ensures ∙ ap (λ n. leb 1 count && leb count n) c.most_numbers.ensures
 
-pub count-in-range-spec : {M : Type 1} → statement M
-count-in-range-spec = tie.close (tie.spec (λ c κs. search rules) (λ c κs. search rules) returns)
+pub count_in_range_spec : {M : Type 1} → statement M
+count_in_range_spec = tie.close (tie.spec
+    (λ c κs. search rules)
+    (λ c κs. search rules)
+    returns)

@@ -5,20 +5,20 @@ use Rattle.number_reader.proofs.OnLine.{number_bad, number-judged}
 use Rattle.number_reader.proofs.number_on.Statement.{statement}
 use Rattle.number_reader.proofs.number_on.Tie as tie
 
-returns : tie.Need-returns
-returns c = (number_bad _ _ _ c.before.before.one-integer.ensures c.enum_told.given.1, tt)
+returns : tie.Need-returns-in_default
+returns c = (number_bad _ _ _ c.one_integer.ensures c.in_default.is, tt)
 
-returns-2 : tie.Need-returns-2
+returns-2 : tie.Need-returns
 returns-2 c =
-    let at-z = c.before.before in
-    let at-one-integer = at-z.before.before in
+    let at-z = c.before in
+    let at-one-integer = at-z.before in
     let start = at-one-integer.before.before in
     let a = start.args in
     let judge = c.judge in
-    (number-judged a.rules a.what (words a.line.now) at-one-integer.one-integer.ensures at-z.z.given.1 judge.result judge.ensures.0, judge.ensures.1)
+    (number-judged a.rules a.what (words a.line.now) at-one-integer.one_integer.ensures at-z.in-Is.is judge.result judge.ensures.0, judge.ensures.1)
 
-pub number-on-spec : {M : Type 1} → statement M
-number-on-spec =
+pub number_on_spec : {M : Type 1} → statement M
+number_on_spec =
     tie.close
     (tie.spec
     (λ c κs. search rules)

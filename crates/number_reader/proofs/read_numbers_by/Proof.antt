@@ -9,63 +9,63 @@ use borrow.Author.Rules.{rules}
 use Rattle.number_reader.proofs.read_numbers_by.Statement.{statement}
 use Rattle.number_reader.proofs.read_numbers_by.Tie as tie
 
-read-number-lines-requires : tie.Need-read-number-lines-requires
+read-number-lines-requires : tie.Need-read_number_lines-requires
 read-number-lines-requires c κs =
-    let at-check-text = c.before.before.before in
+    let at-check-text = c.before.before in
     let at-count-in-range = at-check-text.before in
     let at-clear-integers = at-count-in-range.before.before in
-    let args = at-clear-integers.before.before.before.args in
-    at-clear-integers.clear-integers.ensures
+    let args = at-clear-integers.args in
+    at-clear-integers.clear_integers.ensures
     ∙ ap (λ (k : ℕ). replicate k (pos 0))
     (lent-right args.rules args.what args.count (length args.out.now) args.text.now
     (ap (λ (k : ℕ). eqb k args.count)
-    (ap length at-clear-integers.clear-integers.ensures ∙ length-replicate (length args.out.now) (pos 0))) at-count-in-range.count-in-range.ensures _
-    at-check-text.check-text.ensures c.before.enum_told.given.1)
+    (ap length at-clear-integers.clear_integers.ensures ∙ length-replicate (length args.out.now) (pos 0))) at-count-in-range.count_in_range-counted.ensures _
+    at-check-text.check_text.ensures c.in-Passed.is)
 
-returns : tie.Need-returns
+returns : tie.Need-returns-in-Refused
 returns c =
-    let at-check-text = c.before.before.before in
+    let at-check-text = c.before in
     let at-count-in-range = at-check-text.before in
     let at-clear-integers = at-count-in-range.before.before in
-    let args = at-clear-integers.before.before.before.args in
+    let args = at-clear-integers.args in
     whole_lent args.rules args.what args.count (length args.out.now) args.text.now
     (ap (λ (k : ℕ). eqb k args.count)
-    (ap length at-clear-integers.clear-integers.ensures ∙ length-replicate (length args.out.now) (pos 0))) at-count-in-range.count-in-range.ensures _
-    at-check-text.check-text.ensures c.before.r.given.1 at-clear-integers.clear-integers.ensures
+    (ap length at-clear-integers.clear_integers.ensures ∙ length-replicate (length args.out.now) (pos 0))) at-count-in-range.count_in_range-counted.ensures _
+    at-check-text.check_text.ensures c.in-Refused.is at-clear-integers.clear_integers.ensures
 
-returns-2 : tie.Need-returns-2
+returns-2 : tie.Need-returns-in-Read
 returns-2 c =
-    let at-read-number-lines = c.before.before.before in
+    let at-read-number-lines = c.before.before in
     let at-enum-told = at-read-number-lines.before.before in
-    let at-check-text = at-enum-told.before.before in
+    let at-check-text = at-enum-told.before in
     let at-count-in-range = at-check-text.before in
     let at-clear-integers = at-count-in-range.before.before in
-    let args = at-clear-integers.before.before.before.args in
+    let args = at-clear-integers.args in
     whole_read args.rules args.what args.count (length args.out.now) args.text.now
     (ap (λ (k : ℕ). eqb k args.count)
-    (ap length at-clear-integers.clear-integers.ensures ∙ length-replicate (length args.out.now) (pos 0))) at-count-in-range.count-in-range.ensures _
-    at-check-text.check-text.ensures at-enum-told.enum_told.given.1 at-read-number-lines.read-number-lines.ensures c.enum-told2.given.1
+    (ap length at-clear-integers.clear_integers.ensures ∙ length-replicate (length args.out.now) (pos 0))) at-count-in-range.count_in_range-counted.ensures _
+    at-check-text.check_text.ensures at-enum-told.in-Passed.is at-read-number-lines.read_number_lines.ensures c.in-Read.is
 
-returns-3 : tie.Need-returns-3
+returns-3 : tie.Need-returns-in-Refused-read_number_lines
 returns-3 c =
-    let at-r2 = c.before.before.before.before in
-    let at-read-number-lines = at-r2.before.before.before in
+    let at-r2 = c.before.before.before in
+    let at-read-number-lines = at-r2.before.before in
     let at-enum-told = at-read-number-lines.before.before in
-    let at-check-text = at-enum-told.before.before in
+    let at-check-text = at-enum-told.before in
     let at-count-in-range = at-check-text.before in
     let at-clear-integers = at-count-in-range.before.before in
-    let args = at-clear-integers.before.before.before.args in
+    let args = at-clear-integers.args in
     whole_refused args.rules args.what args.count (length args.out.now) args.text.now
     (ap (λ (k : ℕ). eqb k args.count)
-    (ap length at-clear-integers.clear-integers.ensures ∙ length-replicate (length args.out.now) (pos 0))) at-count-in-range.count-in-range.ensures _
-    at-check-text.check-text.ensures at-enum-told.enum_told.given.1 at-read-number-lines.read-number-lines.ensures at-r2.r2.given.1
-    (c.before.clear-integers2.ensures
+    (ap length at-clear-integers.clear_integers.ensures ∙ length-replicate (length args.out.now) (pos 0))) at-count-in-range.count_in_range-counted.ensures _
+    at-check-text.check_text.ensures at-enum-told.in-Passed.is at-read-number-lines.read_number_lines.ensures at-r2.in-Refused-read_number_lines.is
+    (c.clear_integers-in-Refused-read_number_lines.ensures
     ∙ ap (λ (k : ℕ). replicate k (pos 0))
-    (at-read-number-lines.read-number-lines.auto.1.1.1.1.0 ∙ ap length at-clear-integers.clear-integers.ensures
+    (at-read-number-lines.read_number_lines.auto.1.1.1.1.0 ∙ ap length at-clear-integers.clear_integers.ensures
     ∙ length-replicate (length args.out.now) (pos 0)))
 
-pub read-numbers-by-spec : {M : Type 1} → statement M
-read-numbers-by-spec =
+pub read_numbers_by_spec : {M : Type 1} → statement M
+read_numbers_by_spec =
     tie.close
     (tie.spec
     (λ c κs. search rules)

@@ -11,11 +11,11 @@ returns c =
     let header = first.before.before.before.before in
     let cleared = header.before.before.before.before.before in
     let s = cleared.before.before.before in
-    head-put s.args.out.now s.args.count s.requires cleared.clear-bytes.ensures header.put-bytes.ensures first.put-field.ensures
-    second.put-field2.ensures
+    head-put s.args.out.now s.args.count s.requires cleared.clear_bytes.ensures header.put_bytes-a.ensures first.put_field-b.ensures
+    second.put_field.ensures
 
-pub put-array-head-spec : {M : Type 1} → statement M
-put-array-head-spec =
+pub put_array_head_spec : {M : Type 1} → statement M
+put_array_head_spec =
     tie.close
     (tie.spec
     (λ c κs. search rules)

@@ -10,11 +10,11 @@ returns c =
     let first = second.before.before.before.before in
     let head = first.before.before.before.before in
     let s = head.before.before.before in
-    numbers_written s.args.out.now s.args.first.now s.args.rest.now s.requires.0 s.requires.1 head.put-array-head.ensures
-    first.put-values.ensures second.put-values2.ensures
+    numbers_written s.args.out.now s.args.first.now s.args.rest.now s.requires.0 s.requires.1 head.put_array_head-a.ensures
+    first.put_values-b.ensures second.put_values.ensures
 
-pub put-numbers-spec : {M : Type 1} → statement M
-put-numbers-spec =
+pub put_numbers_spec : {M : Type 1} → statement M
+put_numbers_spec =
     tie.close
     (tie.spec
     (λ c. search rules)

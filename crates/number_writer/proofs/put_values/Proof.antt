@@ -8,10 +8,10 @@ use Rattle.number_writer.proofs.Lines.{ValuesWriting, values-start, value_room, 
 use Rattle.number_writer.proofs.put_values.Statement.{statement}
 use Rattle.number_writer.proofs.put_values.Tie as tie
 
-abbrev invariant-loop : tie.invariant-loop
+abbrev invariant-loop : tie.invariant-loop-k
 invariant-loop out₀ start values at₀ k₀ out at k = ValuesWriting values out₀ start out at k
 
-abbrev decreases-loop : tie.decreases-loop
+abbrev decreases-loop : tie.decreases-loop-k
 decreases-loop out₀ start values at₀ k₀ out at k = length values - k
 
 -- The numbers.
@@ -19,45 +19,45 @@ abbrev numbers : tie.Start invariant-loop decreases-loop → List ℤ
 numbers s = s.args.values.now
 
 -- There is a byte after the number.
-line-fits : (c : tie.After-put-signed invariant-loop decreases-loop) → c.put-signed.result + 1 ≤ length c.put-signed.new.0
+line-fits : (c : tie.After-put_signed-end invariant-loop decreases-loop) → c.put_signed-end.result + 1 ≤ length c.put_signed-end.new.0
 line-fits c =
     let t = c.before.before.before in
     let l = t.before in
-    omega (arith, value_room (numbers l.before.before) l.loop.invariant t.loop-test.true, c.put-signed.ensures.1, c.put-signed.auto.0)
+    omega (arith, value_room (numbers l.before.before) l.loop-k.invariant t.loop-k-test.true, c.put_signed-end.ensures.1, c.put_signed-end.auto.0)
 
-loop-holds : tie.Need-loop-init invariant-loop decreases-loop
+loop-holds : tie.Need-loop-k-init invariant-loop decreases-loop
 loop-holds c = let s = c.before in values-start (numbers s) s.args.out.now s.args.start s.requires
 
-put-signed-requires : tie.Need-put-signed-requires invariant-loop decreases-loop
+put-signed-requires : tie.Need-put_signed-end-requires invariant-loop decreases-loop
 put-signed-requires c κs =
     let t = c.before.before in
     let l = t.before in
-    omega (arith, value_room (numbers l.before.before) l.loop.invariant t.loop-test.true)
+    omega (arith, value_room (numbers l.before.before) l.loop-k.invariant t.loop-k-test.true)
 
-loop-again : tie.Need-loop-preserved invariant-loop decreases-loop
+loop-again : tie.Need-loop-k-preserved invariant-loop decreases-loop
 loop-again c =
     let p = c.before.before in
     let t = p.before.before.before in
     let l = t.before in
     let zs = numbers l.before.before in
-    let e = p.before.element in
-    let lt = t.loop-test.true in
-    values-more zs l.loop.invariant lt (value-put zs l.loop.invariant lt e.ensures.0 e.type-inv p.put-signed.ensures)
+    let e = p.element in
+    let lt = t.loop-k-test.true in
+    values-more zs l.loop-k.invariant lt (value-put zs l.loop-k.invariant lt e.ensures.0 e.type_inv p.put_signed-end.ensures)
 
-same_length : tie.Need-same-length invariant-loop decreases-loop
-same_length c = c.before.loop.invariant.long
+same_length : tie.Need-shape_of-out invariant-loop decreases-loop
+same_length c = c.loop-k.invariant.long
 
 returns : tie.Need-returns invariant-loop decreases-loop
-returns c = values-end (numbers c.before.before.before) c.before.loop.invariant (omega (arith, c.loop-test.false))
+returns c = values-end (numbers c.before.before.before) c.loop-k.invariant (omega (arith, c.loop-k-test.false))
 
-pub put-values-spec : {M : Type 1} → statement M
-put-values-spec =
+pub put_values_spec : {M : Type 1} → statement M
+put_values_spec =
     tie.close
     (tie.spec
     invariant-loop
     decreases-loop
     loop-holds
-    (λ c κs. c.before.loop-test.true)
+    (λ c κs. c.loop-k-test.true)
     put-signed-requires
     (λ c. omega (arith, line-fits c.before.before))
     (λ c. omega (arith, line-fits c.before.before))

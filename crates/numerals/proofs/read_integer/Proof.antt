@@ -9,57 +9,57 @@ use borrow.Author.Rules.{rules}
 use Rattle.numerals.proofs.read_integer.Statement.{statement}
 use Rattle.numerals.proofs.read_integer.Tie as tie
 
-returns : tie.Need-returns
+returns : tie.Need-returns-then-w-lt1
 returns c =
-    let args = c.before.before.args in
-    sym (integer_empty args.rules args.w.now c.if1.true)
+    let args = c.args in
+    sym (integer_empty args.rules args.w.now c.if-w-lt1.true)
 
 plus-requires : tie.Need-plus-requires
 plus-requires c κs =
-    let rules = c.before.before.before.before.before.before.before.args.rules in
-    subst NineDigits (sym (c.after_plus.ensures ∙ ap (value_after_plus rules) c.before.read-natural.ensures)) (plus_small rules _ (small rules _))
+    let rules = c.args.rules in
+    subst NineDigits (sym (c.after_plus.ensures ∙ ap (value_after_plus rules) c.read_natural.ensures)) (plus_small rules _ (small rules _))
 
-returns-2 : tie.Need-returns-2
+returns-2 : tie.Need-returns-then-x-eq43
 returns-2 c =
     let at-if2 = c.before.before.before.before in
     let at-if1 = at-if2.before.before in
-    let args = at-if1.before.before.args in
+    let args = at-if1.args in
     c.plus.ensures
-    ∙ ap (map pos) (c.before.after_plus.ensures ∙ ap (value_after_plus args.rules) c.before.before.read-natural.ensures)
-    ∙ sym (integer-plus args.rules args.w.now at-if1.if1.false at-if2.if2.true)
+    ∙ ap (map pos) (c.after_plus.ensures ∙ ap (value_after_plus args.rules) c.read_natural.ensures)
+    ∙ sym (integer-plus args.rules args.w.now at-if1.if-w-lt1.false at-if2.if-x-eq43.true)
 
 minus-requires : tie.Need-minus-requires
 minus-requires c κs =
-    let rules = c.before.before.before.before.before.before.before.before.args.rules in
-    subst NineDigits (sym (c.after_minus.ensures ∙ ap (value_after_minus rules) c.before.read-natural2.ensures)) (minus_small rules _ (small rules _))
+    let rules = c.args.rules in
+    subst NineDigits (sym (c.after_minus.ensures ∙ ap (value_after_minus rules) c.read_natural-then-x-eq45.ensures)) (minus_small rules _ (small rules _))
 
-returns-3 : tie.Need-returns-3
+returns-3 : tie.Need-returns-then-x-eq45
 returns-3 c =
     let at-if3 = c.before.before.before.before in
     let at-if2 = at-if3.before in
     let at-if1 = at-if2.before.before in
-    let args = at-if1.before.before.args in
+    let args = at-if1.args in
     c.minus.ensures
     ∙ ap (map (λ n. neg_ℤ (pos n)))
-    (c.before.after_minus.ensures ∙ ap (value_after_minus args.rules) c.before.before.read-natural2.ensures)
-    ∙ sym (integer-minus args.rules args.w.now at-if1.if1.false at-if2.if2.false at-if3.if3.true)
+    (c.after_minus.ensures ∙ ap (value_after_minus args.rules) c.read_natural-then-x-eq45.ensures)
+    ∙ sym (integer-minus args.rules args.w.now at-if1.if-w-lt1.false at-if2.if-x-eq43.false at-if3.if-x-eq45.true)
 
 plus-requires-2 : tie.Need-plus-requires-2
 plus-requires-2 c κs =
-    let args = c.before.before.before.before.before.before.args in
-    subst NineDigits (sym c.read-natural3.ensures) (small args.rules _)
+    let args = c.args in
+    subst NineDigits (sym c.read_natural-2.ensures) (small args.rules _)
 
-returns-4 : tie.Need-returns-4
+returns-4 : tie.Need-returns
 returns-4 c =
-    let if3 = c.before.before.if3 in
+    let if3 = c.if-x-eq45 in
     let at-if2 = c.before.before.before in
     let at-if1 = at-if2.before.before in
-    let args = at-if1.before.before.args in
-    c.plus2.ensures ∙ ap (map pos) c.before.read-natural3.ensures
-    ∙ sym (integer-plain args.rules args.w.now at-if1.if1.false at-if2.if2.false if3.false)
+    let args = at-if1.args in
+    c.plus-2.ensures ∙ ap (map pos) c.read_natural-2.ensures
+    ∙ sym (integer-plain args.rules args.w.now at-if1.if-w-lt1.false at-if2.if-x-eq43.false if3.false)
 
-pub read-integer-spec : {M : Type 1} → statement M
-read-integer-spec =
+pub read_integer_spec : {M : Type 1} → statement M
+read_integer_spec =
     tie.close
     (tie.spec
     returns

@@ -6,15 +6,19 @@ use borrow.Author.Rules.{rules}
 use Rattle.numerals.proofs.read_natural.Statement.{statement}
 use Rattle.numerals.proofs.read_natural.Tie as tie
 
-returns : tie.Need-returns
+returns : tie.Need-returns-then-is_zero_refused
 returns c =
-    let a = c.before.before.before.args in
-    natural-by a.rules a.w.now true (sym c.if1.true ∙ c.before.is-zero-refused.ensures)
+    let a = c.args in
+    natural-by a.rules a.w.now true (sym c.if-is_zero_refused.true ∙ c.is_zero_refused.ensures)
 
-returns-2 : tie.Need-returns-2
+returns-2 : tie.Need-returns
 returns-2 c =
-    let a = c.before.before.before.before.args in
-    c.read-numeral.ensures ∙ natural-by a.rules a.w.now false (sym c.before.if1.false ∙ c.before.before.is-zero-refused.ensures)
+    let a = c.args in
+    c.read_numeral.ensures ∙ natural-by a.rules a.w.now false (sym c.if-is_zero_refused.false ∙ c.is_zero_refused.ensures)
 
-pub read-natural-spec : {M : Type 1} → statement M
-read-natural-spec = tie.close (tie.spec (λ c κs. search rules) returns (λ c κs. search rules) returns-2)
+pub read_natural_spec : {M : Type 1} → statement M
+read_natural_spec = tie.close (tie.spec
+    (λ c κs. search rules)
+    returns
+    (λ c κs. search rules)
+    returns-2)

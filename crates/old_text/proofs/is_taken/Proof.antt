@@ -5,22 +5,22 @@ use borrow.Author.Rules.{rules}
 use Rattle.old_text.proofs.is_taken.Statement.{statement}
 use Rattle.old_text.proofs.is_taken.Tie as tie
 
-returns : tie.Need-returns
-returns c = taken-first _ (sym c.if1.true ∙ c.before.is-taken-as.ensures)
+returns : tie.Need-returns-then-is_taken_as
+returns c = taken-first _ (sym c.if-is_taken_as.true ∙ c.is_taken_as.ensures)
 
-returns-2 : tie.Need-returns-2
+returns-2 : tie.Need-returns-then-is_taken_as-2
 returns-2 c =
     let at-is-taken-as = c.before.before.before in
-    taken-second _ (sym c.before.before.if1.false ∙ at-is-taken-as.is-taken-as.ensures) (sym c.if2.true ∙ c.before.is-taken-as2.ensures)
+    taken-second _ (sym c.if-is_taken_as.false ∙ at-is-taken-as.is_taken_as.ensures) (sym c.if-is_taken_as-2.true ∙ c.is_taken_as-2.ensures)
 
-returns-3 : tie.Need-returns-3
+returns-3 : tie.Need-returns
 returns-3 c =
     let at-if1 = c.before.before.before in
     let at-is-taken-as = at-if1.before in
-    taken-third _ (sym at-if1.if1.false ∙ at-is-taken-as.is-taken-as.ensures) (sym c.before.if2.false ∙ c.before.before.is-taken-as2.ensures) c.is-taken-as-numbers.ensures
+    taken-third _ (sym at-if1.if-is_taken_as.false ∙ at-is-taken-as.is_taken_as.ensures) (sym c.if-is_taken_as-2.false ∙ c.is_taken_as-2.ensures) c.is_taken_as_numbers.ensures
 
-pub is-taken-spec : {M : Type 1} → statement M
-is-taken-spec =
+pub is_taken_spec : {M : Type 1} → statement M
+is_taken_spec =
     tie.close
     (tie.spec
     (λ c κs. search rules)

@@ -7,22 +7,22 @@ use borrow.Author.Rules.{rules}
 use Rattle.old_text.proofs.is_taken_as.Statement.{statement}
 use Rattle.old_text.proofs.is_taken_as.Tie as tie
 
-returns : tie.Need-returns
+returns : tie.Need-returns-in-Graph
 returns c =
-    let at-read-graph-by = c.before.before.before.before.before.before in
+    let at-read-graph-by = c.before.before.before.before in
     let start = at-read-graph-by.before.before.before.before.before in
     let a = start.args in
-    graph_taken (read_graph_by Old a.field most_edges most_edges most_edges a.text.now) at-read-graph-by.read-graph-by.ensures.0 c.before.s.given.1
+    graph_taken (read_graph_by Old a.field most_edges most_edges most_edges a.text.now) at-read-graph-by.read_graph_by.ensures.0 c.in-Graph.is
 
-returns-2 : tie.Need-returns-2
+returns-2 : tie.Need-returns-in-Refused
 returns-2 c =
-    let at-read-graph-by = c.before.before.before.before.before.before in
+    let at-read-graph-by = c.before.before.before.before in
     let start = at-read-graph-by.before.before.before.before.before in
     let a = start.args in
-    graph_refused (read_graph_by Old a.field most_edges most_edges most_edges a.text.now) at-read-graph-by.read-graph-by.ensures.0 c.before.r.given.1
+    graph_refused (read_graph_by Old a.field most_edges most_edges most_edges a.text.now) at-read-graph-by.read_graph_by.ensures.0 c.in-Refused.is
 
-pub is-taken-as-spec : {M : Type 1} → statement M
-is-taken-as-spec =
+pub is_taken_as_spec : {M : Type 1} → statement M
+is_taken_as_spec =
     tie.close
     (tie.spec
     (λ c. search rules)

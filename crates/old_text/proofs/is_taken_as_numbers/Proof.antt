@@ -9,38 +9,38 @@ use borrow.Author.Rules.{rules}
 use Rattle.old_text.proofs.is_taken_as_numbers.Statement.{statement}
 use Rattle.old_text.proofs.is_taken_as_numbers.Tie as tie
 
-returns : tie.Need-returns
-returns c = too_many c.before.before.before.args.text.now _ c.before.told-count.ensures c.if1.true
+returns : tie.Need-returns-then-count
+returns c = too_many c.args.text.now _ c.told_count-count.ensures c.if-count.true
 
 -- The array has room for as many numbers.
 abbrev zeros : List ℤ
 zeros = replicate 1152 (pos 0)
 
-slice-aggregate-read-numbers-by : tie.Need-slice-aggregate-read-numbers-by
-slice-aggregate-read-numbers-by c = sym (length-take-le c.before.before.told-count.result zeros c.before.if1.false)
+slice-aggregate-read-numbers-by : tie.Need-slice_bounds-read_numbers_by-end
+slice-aggregate-read-numbers-by c = sym (length-take-le c.told_count-count.result zeros c.if-count.false)
 
-returns-2 : tie.Need-returns-2
+returns-2 : tie.Need-returns-in-Read
 returns-2 c =
-    let at-read-numbers-by = c.before.before.before in
+    let at-read-numbers-by = c.before.before in
     let at-if1 = at-read-numbers-by.before.before in
     let at-told-count = at-if1.before in
     let start = at-told-count.before.before in
-    let t = at-told-count.told-count in
-    numbers_read_taken start.args.text.now t.result t.ensures (length-take-le t.result zeros at-if1.if1.false) _
-    at-read-numbers-by.read-numbers-by.ensures.0 c.enum_told.given.1
+    let t = at-told-count.told_count-count in
+    numbers_read_taken start.args.text.now t.result t.ensures (length-take-le t.result zeros at-if1.if-count.false) _
+    at-read-numbers-by.read_numbers_by.ensures.0 c.in-Read.is
 
-returns-3 : tie.Need-returns-3
+returns-3 : tie.Need-returns-in-Refused
 returns-3 c =
-    let at-read-numbers-by = c.before.before.before.before in
+    let at-read-numbers-by = c.before.before in
     let at-if1 = at-read-numbers-by.before.before in
     let at-told-count = at-if1.before in
     let start = at-told-count.before.before in
-    let t = at-told-count.told-count in
-    numbers_refused start.args.text.now t.result t.ensures (length-take-le t.result zeros at-if1.if1.false) _
-    at-read-numbers-by.read-numbers-by.ensures.0 c.before.r.given.1
+    let t = at-told-count.told_count-count in
+    numbers_refused start.args.text.now t.result t.ensures (length-take-le t.result zeros at-if1.if-count.false) _
+    at-read-numbers-by.read_numbers_by.ensures.0 c.in-Refused.is
 
-pub is-taken-as-numbers-spec : {M : Type 1} → statement M
-is-taken-as-numbers-spec =
+pub is_taken_as_numbers_spec : {M : Type 1} → statement M
+is_taken_as_numbers_spec =
     tie.close
     (tie.spec
     (λ c κs. search rules)

@@ -5,51 +5,51 @@ use borrow.Author.Rules.{rules}
 use Rattle.old_text.proofs.told_count.Statement.{statement}
 use Rattle.old_text.proofs.told_count.Tie as tie
 
-size-line-requires : tie.Need-size-line-requires
-size-line-requires c κs = (opened_line c.before.before.before.header-line.ensures c.before.start.given.1).reached
+size-line-requires : tie.Need-size_line-requires
+size-line-requires c κs = (opened_line c.header_line.ensures c.in-At.is).reached
 
-sub-two-naturals : tie.Need-overflow-sub-two-naturals
-sub-two-naturals c = (opened_line c.before.before.before.size-line.ensures c.before.start2.given.1).forward
+sub-two-naturals : tie.Need-slice_bounds-two_naturals-count
+sub-two-naturals c = (opened_line c.size_line.ensures c.in-At-size_line.is).forward
 
-part-two-naturals-start : tie.Need-slice-bounds-two-naturals-start
-part-two-naturals-start c = (opened_line c.before.before.before.size-line.ensures c.before.start2.given.1).forward
+part-two-naturals-start : tie.Need-slice_bounds-two_naturals-start
+part-two-naturals-start c = (opened_line c.size_line.ensures c.in-At-size_line.is).forward
 
-part-two-naturals-end : tie.Need-slice-bounds-two-naturals-end
-part-two-naturals-end c = (opened_line c.before.before.before.size-line.ensures c.before.start2.given.1).ends
+part-two-naturals-end : tie.Need-slice_bounds-two_naturals-end
+part-two-naturals-end c = (opened_line c.size_line.ensures c.in-At-size_line.is).ends
 
-returns : tie.Need-returns
-returns c = λ what k zs e. header-there _ what k zs e c.before.before.before.header-line.ensures c.before.r.given.1
+returns : tie.Need-returns-in-Refused
+returns c = λ what k zs e. header-there _ what k zs e c.header_line.ensures c.in-Refused.is
 
-returns-2 : tie.Need-returns-2
+returns-2 : tie.Need-returns-in-Refused-size_line
 returns-2 c =
-    let at-size-line = c.before.before.before in
-    let at-start = at-size-line.before.before in
-    let at-header-line = at-start.before.before in
-    λ what k zs e. size_there _ what k zs e at-header-line.header-line.ensures at-start.start.given.1 at-size-line.size-line.ensures c.before.r2.given.1
+    let at-size-line = c.before in
+    let at-start = at-size-line.before in
+    let at-header-line = at-start.before in
+    λ what k zs e. size_there _ what k zs e at-header-line.header_line.ensures at-start.in-At.is at-size-line.size_line.ensures c.in-Refused-size_line.is
 
-returns-3 : tie.Need-returns-3
+returns-3 : tie.Need-returns-in-Is
 returns-3 c =
-    let at-two-naturals = c.before.before.before in
-    let at-start2 = at-two-naturals.before.before.before in
-    let at-size-line = at-start2.before.before in
-    let at-start = at-size-line.before.before in
-    let at-header-line = at-start.before.before in
+    let at-two-naturals = c.before in
+    let at-start2 = at-two-naturals.before.before in
+    let at-size-line = at-start2.before in
+    let at-start = at-size-line.before in
+    let at-header-line = at-start.before in
     λ what k zs e.
-    count_told _ what k zs e at-header-line.header-line.ensures at-start.start.given.1 at-size-line.size-line.ensures at-start2.start2.given.1 _
-    at-two-naturals.two-naturals.ensures c.before.count.given.1
+    count_told _ what k zs e at-header-line.header_line.ensures at-start.in-At.is at-size-line.size_line.ensures at-start2.in-At-size_line.is _
+    at-two-naturals.two_naturals.ensures c.in-Is.is
 
-returns-4 : tie.Need-returns-4
+returns-4 : tie.Need-returns-in-Bad
 returns-4 c =
-    let at-start2 = c.before.before.before.before.before in
-    let at-size-line = at-start2.before.before in
-    let at-start = at-size-line.before.before in
-    let at-header-line = at-start.before.before in
+    let at-start2 = c.before.before.before in
+    let at-size-line = at-start2.before in
+    let at-start = at-size-line.before in
+    let at-header-line = at-start.before in
     λ what k zs e.
-    count_there _ what k zs e at-header-line.header-line.ensures at-start.start.given.1 at-size-line.size-line.ensures at-start2.start2.given.1 _
-    c.before.before.two-naturals.ensures c.enum_told.given.1
+    count_there _ what k zs e at-header-line.header_line.ensures at-start.in-At.is at-size-line.size_line.ensures at-start2.in-At-size_line.is _
+    c.two_naturals.ensures c.in-Bad.is
 
-pub told-count-spec : {M : Type 1} → statement M
-told-count-spec =
+pub told_count_spec : {M : Type 1} → statement M
+told_count_spec =
     tie.close
     (tie.spec
     (λ c κs. search rules)

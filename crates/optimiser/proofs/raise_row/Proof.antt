@@ -9,60 +9,60 @@ use borrow.Author.Rules.{rules}
 use Rattle.optimiser.proofs.raise_row.Statement.{statement}
 use Rattle.optimiser.proofs.raise_row.Tie as tie
 
-sub-v : tie.Need-overflow-sub-v
+sub-v : tie.Need-overflow_sub-v
 sub-v c = let start = c.before.before.before.before in omega (arith, (start.requires.0.sound.ends start.args.e start.requires.1.0).row.least)
 
-cast-v : tie.Need-overflow-cast-v
-cast-v c = omega (arith, c.shared-slice-known3.given c.before.before.before.before.args.e)
+cast-v : tie.Need-overflow_cast-v
+cast-v c = omega (arith, c.shared_slice_known-3-1.given c.args.e)
 
-value-at-requires : tie.Need-value-at-requires
+value-at-requires : tie.Need-value_at-k-requires
 value-at-requires c κs =
     let start = c.before.before.before.before in
     let pre = start.requires in
     (omega (arith, pre.0.weight_long, pre.1.0), weight_within pre.0 start.args.e pre.1.0)
 
-sub-k : tie.Need-overflow-sub-k
+sub-k : tie.Need-overflow_sub-k
 sub-k c =
     let start = c.before.before.before.before.before in
     let pre = start.requires in
-    omega (arith, c.value-at.ensures, (value_in pre.0 start.args.e pre.1.0).0)
+    omega (arith, c.value_at-k.ensures, (value_in pre.0 start.args.e pre.1.0).0)
 
-mul-if1 : tie.Need-overflow-mul-if1
+mul-if1 : tie.Need-offset_bounds-price-v
 mul-if1 c =
     let start = c.before.before.before.before.before in
     let pre = start.requires in
     omega (arith, (pre.0.sound.ends start.args.e pre.1.0).first, pre.0.sound.sizes.order)
 
-slice-read-if1 : tie.Need-slice-read-if1
+slice-read-if1 : tie.Need-bounds-price-v
 slice-read-if1 c =
     let start = c.before.before.before.before.before.before in
     let pre = start.requires in
     omega (arith, (pre.0.sound.ends start.args.e pre.1.0).first, pre.1.1)
 
-mul-price : tie.Need-overflow-mul-price
+mul-price : tie.Need-offset_bounds-price-v-then-price-v
 mul-price c =
     let start = c.before.before.before.before.before.before.before in
     let pre = start.requires in
     omega (arith, (pre.0.sound.ends start.args.e pre.1.0).first, pre.0.sound.sizes.order)
 
-slice-write-price : tie.Need-slice-write-price
+slice-write-price : tie.Need-bounds-price-v-then-price-v
 slice-write-price c =
     let start = c.before.before.before.before.before.before.before in
     let pre = start.requires in
     omega (arith, (pre.0.sound.ends start.args.e pre.1.0).first, pre.1.1)
 
-returns : tie.Need-returns
+returns : tie.Need-returns-then-price-v
 returns c =
     let start = c.before.before.before.before.before.before.before in
     let pre = start.requires in
     let inside = (pre.0.sound.ends start.args.e pre.1.0).first in
-    raise_set start.args.price.now _ (ap (λ n. n - level) c.before.before.value-at.ensures) (omega (arith, inside, pre.1.1)) c.if1.true
+    raise_set start.args.price.now _ (ap (λ n. n - level) c.value_at-k.ensures) (omega (arith, inside, pre.1.1)) c.if-price-v.true
 
-returns-2 : tie.Need-returns-2
-returns-2 c = raise_kept (ap (λ n. n - level) c.before.before.value-at.ensures) c.if1.false
+returns-2 : tie.Need-returns-else-price-v
+returns-2 c = raise_kept (ap (λ n. n - level) c.value_at-k.ensures) c.if-price-v.false
 
-pub raise-row-spec : {M : Type 1} → statement M
-raise-row-spec =
+pub raise_row_spec : {M : Type 1} → statement M
+raise_row_spec =
     tie.close
     (tie.spec
     (λ c. search rules)

@@ -8,25 +8,25 @@ use Rattle.positions.proofs.Positions.{stands_here}
 use Rattle.positions.proofs.stands_at.Statement.{statement}
 use Rattle.positions.proofs.stands_at.Tie as tie
 
-cast-at : tie.Need-overflow-cast-at
-cast-at c = omega (arith, c.shared-slice-known.given c.before.before.args.v)
+cast-at : tie.Need-overflow_cast-at
+cast-at c = omega (arith, c.shared_slice_known-1.given c.args.v)
 
-add_at : tie.Need-overflow-add-at
-add_at c = omega (arith, c.shared-slice-known.given c.before.before.args.v, c.before.before.requires.1.0)
+add_at : tie.Need-overflow_add-at
+add_at c = omega (arith, c.shared_slice_known-1.given c.args.v, c.requires.1.0)
 
-add-at-2 : tie.Need-overflow-add-at-2
-add-at-2 c = omega (arith, c.shared-slice-known.given c.before.before.args.v, c.before.before.requires.1.0, c.before.before.requires.1.1)
+add-at-2 : tie.Need-overflow_add-at-2
+add-at-2 c = omega (arith, c.shared_slice_known-1.given c.args.v, c.requires.1.0, c.requires.1.1)
 
-returns : tie.Need-returns
+returns : tie.Need-returns-then-at-index
 returns c =
-    let a = c.before.before.before.before.args in
+    let a = c.args in
     λ t. (stands_here a.index.now a.from (get_or a.index.now a.v 0) (get_or a.count.now a.v 0) a.number t, refl)
 
-returns-2 : tie.Need-returns-2
+returns-2 : tie.Need-returns-else-at-index
 returns-2 c = λ t. absurd (false≢true t)
 
-pub stands-at-spec : {M : Type 1} → statement M
-stands-at-spec =
+pub stands_at_spec : {M : Type 1} → statement M
+stands_at_spec =
     tie.close
     (tie.spec
     (λ c. search rules)

@@ -5,34 +5,34 @@ use borrow.Author.Rules.{rules}
 use Rattle.problem_reader.proofs.read_bounds.Statement.{statement}
 use Rattle.problem_reader.proofs.read_bounds.Tie as tie
 
-returns : tie.Need-returns
+returns : tie.Need-returns-then-bound-ne-MOST_VERTICES
 returns c =
-    let a = c.before.before.before.before.before.args in
+    let a = c.args in
     let b = length a.bound.now in
-    let zeros = c.before.before.clear-integers.ensures in
-    let wrong = c.if1.true in
+    let zeros = c.clear_integers.ensures in
+    let wrong = c.if-bound-ne-MOST_VERTICES.true in
     (wrong_answered b a.n a.limits.now zeros wrong, wrong_left b a.n a.limits.now zeros wrong)
 
-slice-aggregate-read-numbers : tie.Need-slice-aggregate-read-numbers
+slice-aggregate-read-numbers : tie.Need-slice_bounds-read_numbers-end-2
 slice-aggregate-read-numbers c =
     let at-clear-integers = c.before.before.before in
     let s = at-clear-integers.before.before.before in
-    bounds_long (length s.args.bound.now) s.args.n s.args.limits.now at-clear-integers.clear-integers.ensures
-    c.before.if1.false s.requires
+    bounds_long (length s.args.bound.now) s.args.n s.args.limits.now at-clear-integers.clear_integers.ensures
+    c.if-bound-ne-MOST_VERTICES.false s.requires
 
-returns-2 : tie.Need-returns-2
+returns-2 : tie.Need-returns
 returns-2 c =
     let s = c.before.before.before.before.before.before.before.before in
     let b = length s.args.bound.now in
-    let zeros = c.before.before.before.before.before.clear-integers.ensures in
-    let right = c.before.before.before.if1.false in
-    let done = c.before.read-numbers.ensures in (
+    let zeros = c.clear_integers.ensures in
+    let right = c.if-bound-ne-MOST_VERTICES.false in
+    let done = c.read_numbers.ensures in (
       bounds_answered b s.args.n s.args.limits.now zeros right s.requires done.0,
       bounds_left b s.args.n s.args.limits.now zeros right s.requires done.1,
     )
 
-pub read-bounds-spec : {M : Type 1} → statement M
-read-bounds-spec =
+pub read_bounds_spec : {M : Type 1} → statement M
+read_bounds_spec =
     tie.close
     (tie.spec
     (λ c κs. search rules)

@@ -7,56 +7,56 @@ use borrow.Author.Rules.{rules}
 use Rattle.problem_reader.proofs.read_problem.Statement.{statement}
 use Rattle.problem_reader.proofs.read_problem.Tie as tie
 
-read-bounds-requires : tie.Need-read-bounds-requires
+read-bounds-requires : tie.Need-read_bounds-requires
 read-bounds-requires c κs =
-    let at-s = c.before.before.before in
-    let at-read-graph = at-s.before.before.before.before.before.before.before in
-    let a = at-read-graph.before.before.before.before.before.before.before.before.args in
-    let g = at-read-graph.read-graph.ensures in
-    told-few (length a.row.now) (length a.column.now) (length a.weight.now) a.sheet.now g.0 at-s.s.given.1 c.before.vertex-count.ensures
+    let at-s = c.before.before in
+    let at-read-graph = at-s.before.before.before.before.before.before in
+    let a = at-read-graph.args in
+    let g = at-read-graph.read_graph.ensures in
+    told-few (length a.row.now) (length a.column.now) (length a.weight.now) a.sheet.now g.0 at-s.in-Graph.is c.vertex_count.ensures
 
-returns : tie.Need-returns
+returns : tie.Need-returns-in-Refused
 returns c =
-    let at-refusal = c.before.before.before.before in
-    let at-read-graph = at-refusal.before.before.before.before.before.before.before in
-    let a = at-read-graph.before.before.before.before.before.before.before.before.args in
-    let g = at-read-graph.read-graph.ensures in
+    let at-refusal = c.before.before.before in
+    let at-read-graph = at-refusal.before.before.before.before.before.before in
+    let a = at-read-graph.args in
+    let g = at-read-graph.read_graph.ensures in
     sheet-refused (length a.row.now) (length a.column.now) (length a.weight.now) (length a.bound.now) a.sheet.now a.limits.now
-    g.0 g.1.0 g.1.1.0 g.1.1.1 at-refusal.refusal.given.1 c.before.clear-integers.ensures
+    g.0 g.1.0 g.1.1.0 g.1.1.1 at-refusal.in-Refused.is c.clear_integers.ensures
 
-returns-2 : tie.Need-returns-2
+returns-2 : tie.Need-returns-in-Refused-read_bounds
 returns-2 c =
     let at-clear-naturals2 = c.before.before.before.before.before in
     let at-clear-naturals = at-clear-naturals2.before.before.before.before in
-    let at-refusal2 = at-clear-naturals.before.before.before in
-    let at-read-bounds = at-refusal2.before.before.before in
+    let at-refusal2 = at-clear-naturals.before.before in
+    let at-read-bounds = at-refusal2.before.before in
     let at-vertex-count = at-read-bounds.before.before in
-    let at-s = at-vertex-count.before.before in
-    let at-read-graph = at-s.before.before.before.before.before.before.before in
-    let a = at-read-graph.before.before.before.before.before.before.before.before.args in
-    let d = at-read-graph.read-graph in
+    let at-s = at-vertex-count.before in
+    let at-read-graph = at-s.before.before.before.before.before.before in
+    let a = at-read-graph.args in
+    let d = at-read-graph.read_graph in
     let g = d.ensures in
-    let b = at-read-bounds.read-bounds.ensures in
+    let b = at-read-bounds.read_bounds.ensures in
     limits-refused (length a.row.now) (length a.column.now) (length a.weight.now) (length a.bound.now) a.sheet.now a.limits.now
-    g.0 g.1.0 g.1.1.0 g.1.1.1 at-s.s.given.1 at-vertex-count.vertex-count.ensures b.0 b.1 at-refusal2.refusal2.given.1
-    (at-clear-naturals.clear-naturals.ensures ∙ ap (λ k. replicate k 0) d.auto.1.0)
-    (at-clear-naturals2.clear-naturals2.ensures ∙ ap (λ k. replicate k 0) d.auto.1.1.0)
-    (c.before.clear-integers2.ensures ∙ ap (λ k. replicate k (pos 0)) d.auto.1.1.1.0)
+    g.0 g.1.0 g.1.1.0 g.1.1.1 at-s.in-Graph.is at-vertex-count.vertex_count.ensures b.0 b.1 at-refusal2.in-Refused-read_bounds.is
+    (at-clear-naturals.clear_naturals.ensures ∙ ap (λ k. replicate k 0) d.auto.1.0)
+    (at-clear-naturals2.clear_naturals-in-Refused-read_bounds.ensures ∙ ap (λ k. replicate k 0) d.auto.1.1.0)
+    (c.clear_integers-in-Refused-read_bounds.ensures ∙ ap (λ k. replicate k (pos 0)) d.auto.1.1.1.0)
 
-returns-3 : tie.Need-returns-3
+returns-3 : tie.Need-returns-in-Read
 returns-3 c =
-    let at-read-bounds = c.before.before.before in
+    let at-read-bounds = c.before.before in
     let at-vertex-count = at-read-bounds.before.before in
-    let at-s = at-vertex-count.before.before in
-    let at-read-graph = at-s.before.before.before.before.before.before.before in
-    let a = at-read-graph.before.before.before.before.before.before.before.before.args in
-    let g = at-read-graph.read-graph.ensures in
-    let b = at-read-bounds.read-bounds.ensures in
+    let at-s = at-vertex-count.before in
+    let at-read-graph = at-s.before.before.before.before.before.before in
+    let a = at-read-graph.args in
+    let g = at-read-graph.read_graph.ensures in
+    let b = at-read-bounds.read_bounds.ensures in
     problem-read (length a.row.now) (length a.column.now) (length a.weight.now) (length a.bound.now) a.sheet.now a.limits.now
-    g.0 g.1.0 g.1.1.0 g.1.1.1 at-s.s.given.1 at-vertex-count.vertex-count.ensures b.0 b.1 c.enum_told.given.1
+    g.0 g.1.0 g.1.1.0 g.1.1.1 at-s.in-Graph.is at-vertex-count.vertex_count.ensures b.0 b.1 c.in-Read.is
 
-pub read-problem-spec : {M : Type 1} → statement M
-read-problem-spec =
+pub read_problem_spec : {M : Type 1} → statement M
+read_problem_spec =
     tie.close
     (tie.spec
     (λ c κs. search rules)

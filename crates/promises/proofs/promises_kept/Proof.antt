@@ -6,5 +6,6 @@ use Rattle.promises.proofs.Root.{promises}
 returns : tie.Need-returns
 returns c = promises
 
-pub promises-kept-spec : {M : Type 1} → statement M
-promises-kept-spec = tie.close (tie.spec returns)
+pub promises_kept_spec : {M : Type 1} → statement M
+promises_kept_spec = tie.close (tie.spec
+    returns)

@@ -10,7 +10,9 @@ use Rattle.ranges.proofs.bound_in_range.Tie as tie
 returns : tie.Need-returns
 returns c =
     let start = c.before in
-    c.in-range.ensures ∙ ap bound_in_range (back w32 start.args.x start.fits.x.sfits)
+    c.in_range.ensures ∙ ap bound_in_range (back w32 start.args.x start.fits.x.sfits)
 
-pub bound-in-range-spec : {M : Type 1} → statement M
-bound-in-range-spec = tie.close (tie.spec (λ c κs. search rules) returns)
+pub bound_in_range_spec : {M : Type 1} → statement M
+bound_in_range_spec = tie.close (tie.spec
+    (λ c κs. search rules)
+    returns)

@@ -7,28 +7,28 @@ use borrow.Author.Rules.{rules}
 use Rattle.ranges.proofs.ends_in_range.Statement.{statement}
 use Rattle.ranges.proofs.ends_in_range.Tie as tie
 
-returns : tie.Need-returns
+returns : tie.Need-returns-in-Bipartite
 returns c =
-    let both = c.before.before.both in
-    let at-up-to2 = c.before.before.before in
+    let both = c.both-inside in
+    let at-up-to2 = c.before.before in
     let at-up-to = at-up-to2.before in
-    let args = at-up-to.before.args in
+    let args = at-up-to.args in
     both.ensures
-    ∙ ap₂ ◌&&◌ at-up-to.up_to.ensures at-up-to2.up-to2.ensures
-    ∙ sym (ap (λ k. ends_in_range k args.s.rows args.s.columns args.r args.c) c.enum_told.given.1)
+    ∙ ap₂ ◌&&◌ at-up-to.up_to.ensures at-up-to2.up_to-2.ensures
+    ∙ sym (ap (λ k. ends_in_range k args.s.rows args.s.columns args.r args.c) c.in-Bipartite.is)
 
-returns-2 : tie.Need-returns-2
+returns-2 : tie.Need-returns-in-General
 returns-2 c =
-    let at_both = c.before.before.before in
+    let at_both = c.before.before in
     let at-up-to2 = at_both.before in
     let at-up-to = at-up-to2.before in
-    let args = at-up-to.before.args in
-    c.both2.ensures
-    ∙ ap (λ (b : Bool). b && ltb args.c args.r) (at_both.both.ensures ∙ ap₂ ◌&&◌ at-up-to.up_to.ensures at-up-to2.up-to2.ensures)
-    ∙ sym (ap (λ k. ends_in_range k args.s.rows args.s.columns args.r args.c) c.before.enum-told2.given.1)
+    let args = at-up-to.args in
+    c.both.ensures
+    ∙ ap (λ (b : Bool). b && ltb args.c args.r) (at_both.both-inside.ensures ∙ ap₂ ◌&&◌ at-up-to.up_to.ensures at-up-to2.up_to-2.ensures)
+    ∙ sym (ap (λ k. ends_in_range k args.s.rows args.s.columns args.r args.c) c.in-General.is)
 
-pub ends-in-range-spec : {M : Type 1} → statement M
-ends-in-range-spec =
+pub ends_in_range_spec : {M : Type 1} → statement M
+ends_in_range_spec =
     tie.close
     (tie.spec
     (λ c κs. search rules)

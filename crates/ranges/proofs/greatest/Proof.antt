@@ -9,17 +9,22 @@ use Rattle.layout.specs.NumberText.{in_range}
 use Rattle.ranges.proofs.greatest.Statement.{statement}
 use Rattle.ranges.proofs.greatest.Tie as tie
 
-returns : tie.Need-returns
+returns : tie.Need-returns-in-Bounds
 returns c =
-    let args = c.before.before.args in
-    λ z. ap (λ w. in_range args.rules w z) (sym c.enum_told.given.1)
+    let args = c.args in
+    λ z. ap (λ w. in_range args.rules w z) (sym c.in-Bounds.is)
 
-returns-2 : tie.Need-returns-2
+returns-2 : tie.Need-returns-in-Prices
 returns-2 c =
-    let args = c.before.before.before.args in
-    let g = c.greatest-price in
+    let args = c.args in
+    let g = c.greatest_price in
     λ z. ap (λ y. between (pos 0) y z) (back w32 g.result g.ok ∙ g.ensures) ∙ ap (λ w. in_range args.rules w z)
-    (sym c.before.enum-told2.given.1)
+    (sym c.in-Prices.is)
 
-pub greatest-spec : {M : Type 1} → statement M
-greatest-spec = tie.close (tie.spec (λ c. search rules) (λ c. search rules) (λ c κs. search rules) returns returns-2)
+pub greatest_spec : {M : Type 1} → statement M
+greatest_spec = tie.close (tie.spec
+    (λ c. search rules)
+    (λ c. search rules)
+    (λ c κs. search rules)
+    returns
+    returns-2)

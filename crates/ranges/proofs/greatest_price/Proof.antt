@@ -6,11 +6,15 @@ use Rattle.layout.specs.NumberText.{greatest_price_by}
 use Rattle.ranges.proofs.greatest_price.Statement.{statement}
 use Rattle.ranges.proofs.greatest_price.Tie as tie
 
-returns : tie.Need-returns
-returns c = sym (ap (λ r. pos (greatest_price_by r)) c.enum_told.given.1)
+returns : tie.Need-returns-in-New
+returns c = sym (ap (λ r. pos (greatest_price_by r)) c.in-New.is)
 
-returns-2 : tie.Need-returns-2
-returns-2 c = sym (ap (λ r. pos (greatest_price_by r)) c.enum-told2.given.1)
+returns-2 : tie.Need-returns-in-Old
+returns-2 c = sym (ap (λ r. pos (greatest_price_by r)) c.in-Old.is)
 
-pub greatest-price-spec : {M : Type 1} → statement M
-greatest-price-spec = tie.close (tie.spec (λ c. search rules) (λ c. search rules) returns returns-2)
+pub greatest_price_spec : {M : Type 1} → statement M
+greatest_price_spec = tie.close (tie.spec
+    (λ c. search rules)
+    (λ c. search rules)
+    returns
+    returns-2)

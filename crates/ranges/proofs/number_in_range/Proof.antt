@@ -11,9 +11,12 @@ use Rattle.ranges.proofs.number_in_range.Tie as tie
 returns : tie.Need-returns
 returns c =
     let start = c.before.before in
-    let g = c.before.greatest in
+    let g = c.greatest in
     let z = start.args.z in
-    c.in-range.ensures ∙ ap₂ (between (pos 0)) (back w32 g.result g.ok) (back w32 z start.fits.z.sfits) ∙ g.ensures z
+    c.in_range.ensures ∙ ap₂ (between (pos 0)) (back w32 g.result g.ok) (back w32 z start.fits.z.sfits) ∙ g.ensures z
 
-pub number-in-range-spec : {M : Type 1} → statement M
-number-in-range-spec = tie.close (tie.spec (λ c κs. search rules) (λ c κs. search rules) returns)
+pub number_in_range_spec : {M : Type 1} → statement M
+number_in_range_spec = tie.close (tie.spec
+    (λ c κs. search rules)
+    (λ c κs. search rules)
+    returns)

@@ -7,27 +7,27 @@ use borrow.Author.Rules.{rules}
 use Rattle.ranges.proofs.sizes_in_range.Statement.{statement}
 use Rattle.ranges.proofs.sizes_in_range.Tie as tie
 
-returns : tie.Need-returns
+returns : tie.Need-returns-in-Bipartite
 returns c =
-    let up-to2 = c.before.before.up-to2 in
+    let up-to2 = c.up_to-in-Bipartite in
     let at-up-to = c.before.before.before in
     let at-enum-told = at-up-to.before in
-    let s = at-enum-told.before.before.before.args.s in
-    c.both2.ensures
-    ∙ ap (λ (b : Bool). b && leb s.edges 1024) (c.before.both.ensures ∙ ap₂ ◌&&◌ at-up-to.up_to.ensures up-to2.ensures)
-    ∙ sym (ap (λ k. sizes_in_range k s.rows s.columns s.edges) at-enum-told.enum_told.given.1)
+    let s = at-enum-told.args.s in
+    c.both-in-Bipartite.ensures
+    ∙ ap (λ (b : Bool). b && leb s.edges 1024) (c.both.ensures ∙ ap₂ ◌&&◌ at-up-to.up_to.ensures up-to2.ensures)
+    ∙ sym (ap (λ k. sizes_in_range k s.rows s.columns s.edges) at-enum-told.in-Bipartite.is)
 
-returns-2 : tie.Need-returns-2
+returns-2 : tie.Need-returns-in-General
 returns-2 c =
     let at-up-to3 = c.before.before.before in
     let at-enum-told2 = at-up-to3.before in
-    let s = at-enum-told2.before.before.before.args.s in
-    c.both4.ensures
-    ∙ ap (λ (b : Bool). b && leb s.edges 1024) (c.before.both3.ensures ∙ ap (λ (b : Bool). b && eqb s.columns s.rows) at-up-to3.up-to3.ensures)
-    ∙ sym (ap (λ k. sizes_in_range k s.rows s.columns s.edges) at-enum-told2.enum-told2.given.1)
+    let s = at-enum-told2.args.s in
+    c.both-in-General-2.ensures
+    ∙ ap (λ (b : Bool). b && leb s.edges 1024) (c.both-in-General.ensures ∙ ap (λ (b : Bool). b && eqb s.columns s.rows) at-up-to3.up_to-in-General.ensures)
+    ∙ sym (ap (λ k. sizes_in_range k s.rows s.columns s.edges) at-enum-told2.in-General.is)
 
-pub sizes-in-range-spec : {M : Type 1} → statement M
-sizes-in-range-spec =
+pub sizes_in_range_spec : {M : Type 1} → statement M
+sizes_in_range_spec =
     tie.close
     (tie.spec
     (λ c. search rules)

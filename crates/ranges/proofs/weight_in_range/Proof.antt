@@ -10,7 +10,9 @@ use Rattle.ranges.proofs.weight_in_range.Tie as tie
 returns : tie.Need-returns
 returns c =
     let start = c.before in
-    c.in-range.ensures ∙ ap weight_in_range (back w32 start.args.x start.fits.x.sfits)
+    c.in_range.ensures ∙ ap weight_in_range (back w32 start.args.x start.fits.x.sfits)
 
-pub weight-in-range-spec : {M : Type 1} → statement M
-weight-in-range-spec = tie.close (tie.spec (λ c κs. search rules) returns)
+pub weight_in_range_spec : {M : Type 1} → statement M
+weight_in_range_spec = tie.close (tie.spec
+    (λ c κs. search rules)
+    returns)

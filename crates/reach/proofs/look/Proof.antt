@@ -4,13 +4,13 @@ use borrow.Author.Rules.{rules}
 use Rattle.reach.proofs.look.Statement.{statement}
 use Rattle.reach.proofs.look.Tie as tie
 
-sub-h : tie.Need-overflow-sub-h
+sub-h : tie.Need-overflow_sub-h
 sub-h c =
-    let h = c.before.requires.1 in
+    let h = c.requires.1 in
     not_below _ _ _ _ h.3 h.4
 
 returns : tie.Need-returns
-returns c = reached_as c.before.before.before.before.far-exit.ensures.0 c.reach.ensures
+returns c = reached_as c.far_exit-exit.ensures.0 c.reach.ensures
 
 pub look_spec : {M : Type 1} → statement M
 look_spec =

@@ -5,10 +5,10 @@ use Rattle.reach.proofs.look_back.Statement.{statement}
 use Rattle.reach.proofs.look_back.Tie as tie
 
 returns : tie.Need-returns
-returns c = reached_as c.before.before.before.before.near-exit.ensures.0 c.reach.ensures
+returns c = reached_as c.near_exit-exit.ensures.0 c.reach.ensures
 
-pub look-back-spec : {M : Type 1} → statement M
-look-back-spec =
+pub look_back_spec : {M : Type 1} → statement M
+look_back_spec =
     tie.close
     (tie.spec
     (λ c. search rules)

@@ -10,12 +10,12 @@ use borrow.Author.Rules.{rules}
 use Rattle.reach.proofs.reach.Statement.{statement}
 use Rattle.reach.proofs.reach.Tie as tie
 
-add-t31 : tie.Need-overflow-add-t31
+add-t31 : tie.Need-overflow_add-result
 add-t31 c =
     let at-pick = c.before.before.before.before.before.before.before in
     let at-both3 = at-pick.before in
     let start = at-both3.before.before.before.before.before.before in
-    omega (arith, start.requires.1, one_at_most at-both3.both3.result at-pick.pick.ensures)
+    omega (arith, start.requires.1, one_at_most at-both3.both.result at-pick.pick-more.ensures)
 
 returns : tie.Need-returns
 returns c =
@@ -29,14 +29,14 @@ returns c =
     let at_both = at-both2.before.before in
     let start = at_both.before.before.before in
     let a = start.args in
-    let dist = ap (set a.distance.now a.w) at-pick2.pick2.ensures in
-    let label = ap (set a.label.now a.w) at-pick3.pick3.ensures in
-    let more = at-pick.pick.ensures ∙ ap (λ (b : Bool). cond b 1 0) at-both3.both3.ensures in
-    reached_by at_both.both.result at-both2.both2.result at_both.both.ensures at-both2.both2.ensures dist label refl
-    (at-pick4.pick4.ensures, at-pick5.pick5.ensures, ap (λ k. a.f.reached + k) more)
+    let dist = ap (set a.distance.now a.w) at-pick2.pick.ensures in
+    let label = ap (set a.label.now a.w) at-pick3.pick-2.ensures in
+    let more = at-pick.pick-more.ensures ∙ ap (λ (b : Bool). cond b 1 0) at-both3.both.ensures in
+    reached_by at_both.both-nearer.result at-both2.both-ends.result at_both.both-nearer.ensures at-both2.both-ends.ensures dist label refl
+    (at-pick4.pick-3.ensures, at-pick5.pick-4.ensures, ap (λ k. a.f.reached + k) more)
 
-pub reach-spec : {M : Type 1} → statement M
-reach-spec =
+pub reach_spec : {M : Type 1} → statement M
+reach_spec =
     tie.close
     (tie.spec
     (λ c. search rules)

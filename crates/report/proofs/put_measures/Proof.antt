@@ -5,22 +5,22 @@ use Rattle.report.proofs.Parts.{no_room, text_composed}
 use Rattle.report.proofs.put_measures.Statement.{statement}
 use Rattle.report.proofs.put_measures.Tie as tie
 
-returns : tie.Need-returns
+returns : tie.Need-returns-then-out-lt-LINE_BYTES
 returns c =
     let at-clear-bytes = c.before.before.before in
     let s = at-clear-bytes.before.before.before in
-    no_room 256 (measured_line s.args.m) s.args.out.now at-clear-bytes.clear-bytes.ensures c.if1.true
+    no_room 256 (measured_line s.args.m) s.args.out.now at-clear-bytes.clear_bytes.ensures c.if-out-lt-LINE_BYTES.true
 
-returns-2 : tie.Need-returns-2
+returns-2 : tie.Need-returns
 returns-2 c =
-    let put-measured-line = c.before.before.put-measured-line in
+    let put-measured-line = c.put_measured_line in
     let at-if1 = c.before.before.before.before in
     let at-clear-bytes = at-if1.before.before.before in
     let s = at-clear-bytes.before.before.before in
-    text_composed 256 (measured_line s.args.m) s.args.out.now at-clear-bytes.clear-bytes.ensures at-if1.if1.false put-measured-line.ensures
+    text_composed 256 (measured_line s.args.m) s.args.out.now at-clear-bytes.clear_bytes.ensures at-if1.if-out-lt-LINE_BYTES.false put-measured-line.ensures
 
-pub put-measures-spec : {M : Type 1} → statement M
-put-measures-spec =
+pub put_measures_spec : {M : Type 1} → statement M
+put_measures_spec =
     tie.close
     (tie.spec
     (λ c κs. search rules)

@@ -8,7 +8,11 @@ returns : tie.Need-returns
 returns c =
     let b = c.before.before.before.before.before.before in
     let s = b.before.before.before.before in
-    named_put s.args.name.now s.args.z s.ranges.z s.requires b.put-bytes.ensures c.before.before.put-signed.ensures
+    named_put s.args.name.now s.args.z s.ranges.z s.requires b.put_bytes-a.ensures c.put_signed.ensures
 
-pub put-named-spec : {M : Type 1} → statement M
-put-named-spec = tie.close (tie.spec (λ c κs. search rules) (λ c κs. search rules) (λ c. search rules) returns)
+pub put_named_spec : {M : Type 1} → statement M
+put_named_spec = tie.close (tie.spec
+    (λ c κs. search rules)
+    (λ c κs. search rules)
+    (λ c. search rules)
+    returns)

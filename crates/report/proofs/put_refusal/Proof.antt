@@ -6,7 +6,7 @@ use Rattle.report.proofs.Parts.{refusal_put}
 use Rattle.report.proofs.put_refusal.Statement.{statement}
 use Rattle.report.proofs.put_refusal.Tie as tie
 
-same_length : tie.Need-same-length
+same_length : tie.Need-shape_of-out
 same_length c =
     let file = c.before.before in
     let inside = file.before.before.before.before in
@@ -15,8 +15,8 @@ same_length c =
     let number = at.before.before.before.before.before in
     let first = number.before.before.before.before in
     simp length-set
-    (file.put-source-name.auto.0 ∙ inside.put-bytes3.auto.0 ∙ place.put-decimal2.auto.0 ∙ at.put-bytes2.auto.0 ∙ number.put-decimal.auto.0
-    ∙ first.put-bytes.auto.0)
+    (file.put_source_name-at.auto.0 ∙ inside.put_bytes-at-3.auto.0 ∙ place.put_decimal-at-2.auto.0 ∙ at.put_bytes-at-2.auto.0 ∙ number.put_decimal-at.auto.0
+    ∙ first.put_bytes-at.auto.0)
 
 returns : tie.Need-returns
 returns c =
@@ -28,16 +28,16 @@ returns c =
     let first = number.before.before.before.before in
     let numbered = first.before.before.before in
     let s = numbered.before.before in
-    refusal_put s.args.source s.args.refusal.fault s.args.refusal.place numbered.number.result s.requires numbered.number.ensures
-    first.put-bytes.ensures
-    number.put-decimal.ensures
-    at.put-bytes2.ensures
-    place.put-decimal2.ensures
-    inside.put-bytes3.ensures
-    file.put-source-name.ensures
+    refusal_put s.args.source s.args.refusal.fault s.args.refusal.place numbered.number-number.result s.requires numbered.number-number.ensures
+    first.put_bytes-at.ensures
+    number.put_decimal-at.ensures
+    at.put_bytes-at-2.ensures
+    place.put_decimal-at-2.ensures
+    inside.put_bytes-at-3.ensures
+    file.put_source_name-at.ensures
 
-pub put-refusal-spec : {M : Type 1} → statement M
-put-refusal-spec =
+pub put_refusal_spec : {M : Type 1} → statement M
+put_refusal_spec =
     tie.close
     (tie.spec
     (λ c κs. search rules)

@@ -5,24 +5,24 @@ use Rattle.report.proofs.Parts.{no_room, text_composed}
 use Rattle.report.proofs.put_refused.Statement.{statement}
 use Rattle.report.proofs.put_refused.Tie as tie
 
-returns : tie.Need-returns
+returns : tie.Need-returns-then-out-lt-LINE_BYTES
 returns c =
     let at-clear-bytes = c.before.before.before in
     let s = at-clear-bytes.before.before.before in
     no_room 256 (refused_line s.args.source s.args.refusal.fault s.args.refusal.place) s.args.out.now
-    at-clear-bytes.clear-bytes.ensures c.if1.true
+    at-clear-bytes.clear_bytes.ensures c.if-out-lt-LINE_BYTES.true
 
-returns-2 : tie.Need-returns-2
+returns-2 : tie.Need-returns
 returns-2 c =
-    let put-refusal = c.before.before.put-refusal in
+    let put-refusal = c.put_refusal in
     let at-if1 = c.before.before.before.before in
     let at-clear-bytes = at-if1.before.before.before in
     let s = at-clear-bytes.before.before.before in
     text_composed 256 (refused_line s.args.source s.args.refusal.fault s.args.refusal.place) s.args.out.now
-    at-clear-bytes.clear-bytes.ensures at-if1.if1.false put-refusal.ensures
+    at-clear-bytes.clear_bytes.ensures at-if1.if-out-lt-LINE_BYTES.false put-refusal.ensures
 
-pub put-refused-spec : {M : Type 1} → statement M
-put-refused-spec =
+pub put_refused_spec : {M : Type 1} → statement M
+put_refused_spec =
     tie.close
     (tie.spec
     (λ c κs. search rules)

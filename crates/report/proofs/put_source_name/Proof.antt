@@ -4,26 +4,26 @@ use Rattle.report.proofs.Parts.{source_put}
 use Rattle.report.proofs.put_source_name.Statement.{statement}
 use Rattle.report.proofs.put_source_name.Tie as tie
 
-returns : tie.Need-returns
-returns c = source_put _ c.before.before.before.before.before.enum_told.given.1 c.before.before.put-bytes.ensures
+returns : tie.Need-returns-in-Sheet
+returns c = source_put _ c.in-Sheet.is c.put_bytes.ensures
 
-returns-2 : tie.Need-returns-2
-returns-2 c = source_put _ c.before.before.before.before.before.enum-told2.given.1 c.before.before.put-bytes2.ensures
+returns-2 : tie.Need-returns-in-Limits
+returns-2 c = source_put _ c.in-Limits.is c.put_bytes-in-Limits.ensures
 
-returns-3 : tie.Need-returns-3
-returns-3 c = source_put _ c.before.before.before.before.before.enum-told3.given.1 c.before.before.put-bytes3.ensures
+returns-3 : tie.Need-returns-in-Plan
+returns-3 c = source_put _ c.in-Plan.is c.put_bytes-in-Plan.ensures
 
-returns-4 : tie.Need-returns-4
-returns-4 c = source_put _ c.before.before.before.before.before.enum-told4.given.1 c.before.before.put-bytes4.ensures
+returns-4 : tie.Need-returns-in-Prices
+returns-4 c = source_put _ c.in-Prices.is c.put_bytes-in-Prices.ensures
 
-returns-5 : tie.Need-returns-5
-returns-5 c = source_put _ c.before.before.before.before.before.enum-told5.given.1 c.before.before.put-bytes5.ensures
+returns-5 : tie.Need-returns-in-Assignment
+returns-5 c = source_put _ c.in-Assignment.is c.put_bytes-in-Assignment.ensures
 
-returns-6 : tie.Need-returns-6
-returns-6 c = source_put _ c.before.before.before.before.before.enum-told6.given.1 c.before.before.put-bytes6.ensures
+returns-6 : tie.Need-returns-in-Input
+returns-6 c = source_put _ c.in-Input.is c.put_bytes-in-Input.ensures
 
-pub put-source-name-spec : {M : Type 1} → statement M
-put-source-name-spec =
+pub put_source_name_spec : {M : Type 1} → statement M
+put_source_name_spec =
     tie.close
     (tie.spec
     (λ c. search rules)

@@ -6,17 +6,17 @@ use borrow.Author.Rules.{rules}
 use Rattle.scan.proofs.list_of.Statement.{statement}
 use Rattle.scan.proofs.list_of.Tie as tie
 
-returns : tie.Need-returns
-returns c = (sym (if_less _ _ c.if1.true), sym (if_less _ _ c.if1.true))
+returns : tie.Need-returns-then-u-rows
+returns c = (sym (if_less _ _ c.if-u-rows.true), sym (if_less _ _ c.if-u-rows.true))
 
-add-t13 : tie.Need-overflow-add-t13
-add-t13 c = omega (arith, c.before.before.before.requires.room c.before.before.if1.false)
+add-t13 : tie.Need-overflow_add-result
+add-t13 c = omega (arith, c.requires.room c.if-u-rows.false)
 
-returns-2 : tie.Need-returns-2
-returns-2 c = (sym (if_not_less _ _ c.before.before.if1.false), sym (if_not_less _ _ c.before.before.if1.false))
+returns-2 : tie.Need-returns
+returns-2 c = (sym (if_not_less _ _ c.if-u-rows.false), sym (if_not_less _ _ c.if-u-rows.false))
 
-pub list-of-spec : {M : Type 1} → statement M
-list-of-spec =
+pub list_of_spec : {M : Type 1} → statement M
+list_of_spec =
     tie.close
     (tie.spec
     returns

@@ -14,7 +14,7 @@ use Rattle.scan.proofs.Column as Column
 use Rattle.scan.proofs.scan_column.Statement.{statement}
 use Rattle.scan.proofs.scan_column.Tie as tie
 
-abbrev invariant-loop : tie.invariant-loop
+abbrev invariant-loop : tie.invariant-loop-k
 invariant-loop s row column weight list price used table label₀ distance₀ order₀ u d stop f₀ k₀ label distance order f k =
     ((c : ColumnScan (graph_of s row column weight) (entries price) (entries used) (leasts table) label₀ distance₀ order₀ f₀ (naturals list) (list_start s.rows (starts table) f₀.vertex)
     (list_stop s.rows (starts table) (entries used) f₀.vertex))
@@ -23,7 +23,7 @@ invariant-loop s row column weight list price used table label₀ distance₀ or
     (list_start s.rows (starts table) f₀.vertex) k)
     × ((f.vertex ≡ f₀.vertex) × (f.distance ≡ f₀.distance))
 
-abbrev decreases-loop : tie.decreases-loop
+abbrev decreases-loop : tie.decreases-loop-k
 decreases-loop s row column weight list price used table label₀ distance₀ order₀ u d stop f₀ k₀ label distance order f k = stop - k
 
 -- What the function may assume, and a turn of the loop.
@@ -31,7 +31,7 @@ abbrev Start : Type 0
 Start = tie.Start invariant-loop decreases-loop
 
 abbrev Inside : Type 0
-Inside = tie.In-loop invariant-loop decreases-loop
+Inside = tie.In-loop-k invariant-loop decreases-loop
 
 abbrev begun : Inside → Start
 begun c = c.before.before.before.before.before.before
@@ -39,146 +39,146 @@ begun c = c.before.before.before.before.before.before
 abbrev stop-at : Start → ℕ
 stop-at c = list_stop c.args.s.rows (starts c.args.table.now) (entries c.args.used.now) c.args.first.vertex
 
-before-stop : (c : Inside) → c.before.loop.k < stop-at (begun c)
-before-stop c = omega (arith, c.loop-test.true, c.before.before.list_of.ensures.1)
+before-stop : (c : Inside) → c.loop-k.k < stop-at (begun c)
+before-stop c = omega (arith, c.loop-k-test.true, c.list_of-p.ensures.1)
 
 -- An edge was read, and its row vertex.
 abbrev Read : Type 0
-Read = tie.After-natural-at invariant-loop decreases-loop
+Read = tie.After-natural_at-e invariant-loop decreases-loop
 
-edge_in : (c : Read) → c.natural-at.result < (begun c.before).args.s.edges
+edge_in : (c : Read) → c.natural_at-e.result < (begun c.before).args.s.edges
 edge_in c =
     let turn = c.before in
     let start = begun turn in
-    let inv = turn.before.loop.invariant in
+    let inv = turn.loop-k.invariant in
     let at = inv.0 start.pre.1.1 in
-    omega (arith, c.natural-at.ensures, Column.edge_in start.pre.0 start.pre.1.1 at.1 inv.1 at.0 (before-stop turn))
+    omega (arith, c.natural_at-e.ensures, Column.edge_in start.pre.0 start.pre.1.1 at.1 inv.1 at.0 (before-stop turn))
 
-end_low : (c : tie.After-ends-at invariant-loop decreases-loop) → c.ends_at.result.first < most_vertices
+end_low : (c : tie.After-ends_at-ends invariant-loop decreases-loop) → c.ends_at-ends.result.first < most_vertices
 end_low c =
     let turn = c.before.before in
     let start = begun turn in
-    let inv = turn.before.loop.invariant in
+    let inv = turn.loop-k.invariant in
     let at = inv.0 start.pre.1.1 in
-    let edge = c.before.natural-at.ensures in
+    let edge = c.natural_at-e.ensures in
     omega (
       arith,
-      Column.end-in start.pre.0 start.pre.1.1 at.1 inv.1 at.0 (before-stop turn) edge c.ends_at.ensures.0,
+      Column.end-in start.pre.0 start.pre.1.1 at.1 inv.1 at.0 (before-stop turn) edge c.ends_at-ends.ensures.0,
       few start.pre.0,
     )
 
-cast-u : tie.Need-overflow-cast-u invariant-loop decreases-loop
-cast-u c = omega (arith, c.before.before.before.requires.1.0.2.inside)
+cast-u : tie.Need-overflow_cast-u invariant-loop decreases-loop
+cast-u c = omega (arith, c.requires.1.0.2.inside)
 
-list-of-requires : tie.Need-list-of-requires invariant-loop decreases-loop
+list-of-requires : tie.Need-list_of-p-requires invariant-loop decreases-loop
 list-of-requires c κs =
-    let pre = c.before.before.before.requires in
+    let pre = c.requires in
     let span = pre.1.0.2 in
     record { inside = span.inside; room = λ l. omega (arith, span.room l, small pre.0) }
 
-loop-holds : tie.Need-loop-init invariant-loop decreases-loop
+loop-holds : tie.Need-loop-k-init invariant-loop decreases-loop
 loop-holds c =
-    let begins = c.list_of.ensures.0 in
+    let begins = c.list_of-p.ensures.0 in
     ((λ h. (omega (arith, begins), Column.from_start (sym begins) h.scanning)), (refl, refl))
 
-cast-natural-at : tie.Need-overflow-cast-natural-at invariant-loop decreases-loop
+cast-natural-at : tie.Need-overflow_cast-k invariant-loop decreases-loop
 cast-natural-at c = omega arith
 
-natural-at-requires : tie.Need-natural-at-requires invariant-loop decreases-loop
+natural-at-requires : tie.Need-natural_at-e-requires invariant-loop decreases-loop
 natural-at-requires c κs =
-    let pre = c.before.before.before.before.before.before.requires in
-    omega (arith, c.loop-test.true, Column.stop-in pre.1.0.2 c.before.before.list_of.ensures.1, pre.1.0.0)
+    let pre = c.requires in
+    omega (arith, c.loop-k-test.true, Column.stop-in pre.1.0.2 c.list_of-p.ensures.1, pre.1.0.0)
 
-cast-at : tie.Need-overflow-cast-at invariant-loop decreases-loop
+cast-at : tie.Need-overflow_cast-at invariant-loop decreases-loop
 cast-at c = omega arith
 
-ends-at-requires : tie.Need-ends-at-requires invariant-loop decreases-loop
-ends-at-requires c κs = (c.before.before.before.before.before.before.before.requires.0.passed.sound, edge_in c)
+ends-at-requires : tie.Need-ends_at-ends-requires invariant-loop decreases-loop
+ends-at-requires c κs = (c.requires.0.passed.sound, edge_in c)
 
-value-at-requires : tie.Need-value-at-requires invariant-loop decreases-loop
+value-at-requires : tie.Need-value_at-requires invariant-loop decreases-loop
 value-at-requires c κs =
-    let passed = c.before.before.before.before.before.before.before.before.requires.0.passed in
+    let passed = c.requires.0.passed in
     let l = edge_in c.before in
     (omega (arith, l, passed.weight_long), weight_within passed _ l)
 
-add-h : tie.Need-overflow-add-h invariant-loop decreases-loop
+add-h : tie.Need-overflow_add-h invariant-loop decreases-loop
 add-h c =
     let turn = c.before.before.before in
     let start = begun turn in
-    let inv = turn.before.loop.invariant in
+    let inv = turn.loop-k.invariant in
     let at = inv.0 start.pre.1.1 in
-    let edge = c.before.before.natural-at.ensures in
-    let raised = c.value-at.ensures in
+    let edge = c.natural_at-e.ensures in
+    let raised = c.value_at.ensures in
     omega (arith, Column.raised-small start.pre.0 start.pre.1.1 at.1 inv.1 at.0 (before-stop turn) edge raised, start.pre.1.0.1)
 
-mul-h : tie.Need-overflow-mul-h invariant-loop decreases-loop
+mul-h : tie.Need-offset_bounds-price-w invariant-loop decreases-loop
 mul-h c = omega (arith, end_low c.before)
 
-element-copy-out-h : tie.Need-element-copy-out-h invariant-loop decreases-loop
+element-copy-out-h : tie.Need-bounds-price-w invariant-loop decreases-loop
 element-copy-out-h c = omega (arith, end_low c.before)
 
-mul-h-2 : tie.Need-overflow-mul-h-2 invariant-loop decreases-loop
-mul-h-2 c = omega (arith, c.before.before.before.before.before.before.before.before.before.before.requires.1.0.2.inside)
+mul-h-2 : tie.Need-offset_bounds-price-u invariant-loop decreases-loop
+mul-h-2 c = omega (arith, c.requires.1.0.2.inside)
 
-element-copy-out-h-2 : tie.Need-element-copy-out-h-2 invariant-loop decreases-loop
-element-copy-out-h-2 c = omega (arith, c.before.before.before.before.before.before.before.before.before.before.requires.1.0.2.inside)
+element-copy-out-h-2 : tie.Need-bounds-price-u invariant-loop decreases-loop
+element-copy-out-h-2 c = omega (arith, c.requires.1.0.2.inside)
 
-add-h-2 : tie.Need-overflow-add-h-2 invariant-loop decreases-loop
+add-h-2 : tie.Need-overflow_add-h-in-loop-k invariant-loop decreases-loop
 add-h-2 c =
     let turn = c.before.before.before.before.before in
     let start = begun turn in
-    let inv = turn.before.loop.invariant in
+    let inv = turn.loop-k.invariant in
     let at = inv.0 start.pre.1.1 in
-    let edge = c.before.before.before.before.natural-at.ensures in
-    let end = c.before.before.before.ends_at.ensures.0 in
+    let edge = c.natural_at-e.ensures in
+    let end = c.ends_at-ends.ensures.0 in
     omega (arith, Column.ends-small start.pre.0 start.pre.1.1 at.1 inv.1 at.0 (before-stop turn) edge end)
 
-sub-h : tie.Need-overflow-sub-h invariant-loop decreases-loop
+sub-h : tie.Need-overflow_sub-h invariant-loop decreases-loop
 sub-h c =
     let turn = c.before.before.before.before.before in
     let start = begun turn in
-    let inv = turn.before.loop.invariant in
+    let inv = turn.loop-k.invariant in
     let at = inv.0 start.pre.1.1 in
-    let edge = c.before.before.before.before.natural-at.ensures in
-    let end = c.before.before.before.ends_at.ensures.0 in
-    let raised = c.before.before.value-at.ensures in
+    let edge = c.natural_at-e.ensures in
+    let end = c.ends_at-ends.ensures.0 in
+    let raised = c.value_at.ensures in
     omega (arith, Column.ends-fit start.pre.0 start.pre.1.1 at.1 inv.1 at.0 (before-stop turn) edge end raised)
 
-look-back-requires : tie.Need-look-back-requires invariant-loop decreases-loop
+look-back-requires : tie.Need-look_back-f-requires invariant-loop decreases-loop
 look-back-requires c κs =
     let at-value-at = c.before.before.before.before.before in
     let at-ends-at = at-value-at.before in
     let at-natural-at = at-ends-at.before in
     let turn = at-natural-at.before in
     let start = begun turn in
-    let inv = turn.before.loop.invariant in
+    let inv = turn.loop-k.invariant in
     let at = inv.0 start.pre.1.1 in
-    let edge = at-natural-at.natural-at.ensures in
-    let end = at-ends-at.ends_at.ensures.0 in
-    let raised = at-value-at.value-at.ensures in
+    let edge = at-natural-at.natural_at-e.ensures in
+    let end = at-ends-at.ends_at-ends.ensures.0 in
+    let raised = at-value-at.value_at.ensures in
     let few-now = Looking.roomy start.pre.0 at.1 in (
       (end_low at-ends-at, few-now, omega (arith, Column.raised-small start.pre.0 start.pre.1.1 at.1 inv.1 at.0 (before-stop turn) edge raised, start.pre.1.0.1)),
       Column.may-lose start.pre.0 start.pre.1.1 at.1 inv.1 at.0 (before-stop turn) edge end,
     )
 
-add-k : tie.Need-overflow-add-k invariant-loop decreases-loop
+add-k : tie.Need-overflow_add-k invariant-loop decreases-loop
 add-k c =
     let turn = c.before.before.before.before.before.before.before.before.before in
     let pre = (begun turn).requires in
-    omega (arith, turn.loop-test.true, Column.stop-in pre.1.0.2 turn.before.before.list_of.ensures.1, small pre.0)
+    omega (arith, turn.loop-k-test.true, Column.stop-in pre.1.0.2 turn.list_of-p.ensures.1, small pre.0)
 
-loop-less : tie.Need-loop-smaller invariant-loop decreases-loop
-loop-less c = omega (arith, c.before.before.before.before.before.before.before.before.before.loop-test.true)
+loop-less : tie.Need-loop-k-smaller invariant-loop decreases-loop
+loop-less c = omega (arith, c.loop-k-test.true)
 
-loop-again : tie.Need-loop-preserved invariant-loop decreases-loop
+loop-again : tie.Need-loop-k-preserved invariant-loop decreases-loop
 loop-again c =
     let turn = c.before.before.before.before.before.before.before.before.before in
     let start = begun turn in
-    let inv = turn.before.loop.invariant in
-    let edge = c.before.before.before.before.before.before.before.before.natural-at.ensures in
-    let end = c.before.before.before.before.before.before.before.ends_at.ensures.0 in
-    let raised = c.before.before.before.before.before.before.value-at.ensures in
-    let reached = c.look-back.ensures in
+    let inv = turn.loop-k.invariant in
+    let edge = c.natural_at-e.ensures in
+    let end = c.ends_at-ends.ensures.0 in
+    let raised = c.value_at.ensures in
+    let reached = c.look_back-f.ensures in
     let same = stays reached in (
       (λ h.
           let at = inv.0 h in
@@ -188,11 +188,11 @@ loop-again c =
 
 returns : tie.Need-returns invariant-loop decreases-loop
 returns c =
-    let inv = c.before.loop.invariant in
-    ((λ h. Column.scanned (omega (arith, c.loop-test.false, c.before.before.list_of.ensures.1)) (inv.0 h).1), inv.1)
+    let inv = c.loop-k.invariant in
+    ((λ h. Column.scanned (omega (arith, c.loop-k-test.false, c.list_of-p.ensures.1)) (inv.0 h).1), inv.1)
 
-pub scan-column-spec : {M : Type 1} → statement M
-scan-column-spec =
+pub scan_column_spec : {M : Type 1} → statement M
+scan_column_spec =
     tie.close
     (tie.spec
     invariant-loop

@@ -5,50 +5,50 @@ use borrow.Author.Rules.{rules}
 use Rattle.search.proofs.count_path.Statement.{statement}
 use Rattle.search.proofs.count_path.Tie as tie
 
-mul-used : tie.Need-overflow-mul-used
+mul-used : tie.Need-offset_bounds-used-root
 mul-used c = search rules
 
-element-copy-out-used : tie.Need-element-copy-out-used
+element-copy-out-used : tie.Need-bounds-used-root
 element-copy-out-used c = search rules
 
-add-used : tie.Need-overflow-add-used
-add-used c = omega (arith, c.before.requires.0.root-few)
+add-used : tie.Need-overflow_add-used
+add-used c = omega (arith, c.requires.0.root-few)
 
-element-write-used : tie.Need-element-write-used
+element-write-used : tie.Need-bounds-used-root-2
 element-write-used c = search rules
 
-mul-used-2 : tie.Need-overflow-mul-used-2
+mul-used-2 : tie.Need-offset_bounds-used-end
 mul-used-2 c = search rules
 
-element-copy-out-used-2 : tie.Need-element-copy-out-used-2
+element-copy-out-used-2 : tie.Need-bounds-used-end
 element-copy-out-used-2 c = search rules
 
-sub_used : tie.Need-overflow-sub-used
-sub_used c = end_some c.before.before.before.args.used.now c.before.before.before.requires.0 c.before.before.before.requires.1 c.before.if1.true
+sub_used : tie.Need-overflow_sub-used
+sub_used c = end_some c.args.used.now c.requires.0 c.requires.1 c.if-end-rows.true
 
-element-write-used-2 : tie.Need-element-write-used-2
+element-write-used-2 : tie.Need-bounds-used-end-then-end-rows
 element-write-used-2 c = search rules
 
-mul-used-3 : tie.Need-overflow-mul-used-3
+mul-used-3 : tie.Need-offset_bounds-used-end-else-end-rows
 mul-used-3 c = search rules
 
-element-copy-out-used-3 : tie.Need-element-copy-out-used-3
+element-copy-out-used-3 : tie.Need-bounds-used-end-else-end-rows
 element-copy-out-used-3 c = search rules
 
-add-used-2 : tie.Need-overflow-add-used-2
-add-used-2 c = omega (arith, end_few c.before.before.before.args.used.now c.before.before.before.requires.0 c.before.before.before.requires.1)
+add-used-2 : tie.Need-overflow_add-used-else-end-rows
+add-used-2 c = omega (arith, end_few c.args.used.now c.requires.0 c.requires.1)
 
-element-write-used-3 : tie.Need-element-write-used-3
+element-write-used-3 : tie.Need-bounds-used-end-else-end-rows-2
 element-write-used-3 c = search rules
 
-returns : tie.Need-returns
-returns c = row_counted c.before.before.before.args.used.now c.before.before.before.requires.0 c.before.before.before.requires.1 c.before.if1.true
+returns : tie.Need-returns-then-end-rows
+returns c = row_counted c.args.used.now c.requires.0 c.requires.1 c.if-end-rows.true
 
-returns-2 : tie.Need-returns-2
-returns-2 c = column_counted c.before.before.before.args.used.now c.before.before.before.requires.0 c.before.before.before.requires.1 c.before.if1.false
+returns-2 : tie.Need-returns-else-end-rows
+returns-2 c = column_counted c.args.used.now c.requires.0 c.requires.1 c.if-end-rows.false
 
-pub count-path-spec : {M : Type 1} → statement M
-count-path-spec =
+pub count_path_spec : {M : Type 1} → statement M
+count_path_spec =
     tie.close
     (tie.spec
     mul-used

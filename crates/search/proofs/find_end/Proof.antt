@@ -23,14 +23,14 @@ use Rattle.search.proofs.Growth as Growth
 use Rattle.search.proofs.find_end.Statement.{statement}
 use Rattle.search.proofs.find_end.Tie as tie
 
-abbrev invariant-loop : tie.invariant-loop
+abbrev invariant-loop : tie.invariant-loop-k
 invariant-loop s row column weight arc table chosen list price used order₀ root at exit f₀ distance₀ t₀ count u base last k₀ order f distance t k =
     Growth.RowScan (graph_of s row column weight) arc table chosen (entries price)
     (exit_of s.rows (entries price) (entries used) (leasts table) (mosts table) root)
     (naturals list) t.label distance order root count f base last k
     × (t.end ≡ most_vertices)
 
-abbrev decreases-loop : tie.decreases-loop
+abbrev decreases-loop : tie.decreases-loop-k
 decreases-loop s row column weight arc table chosen list price used order₀ root at exit f₀ distance₀ t₀ count u base last k₀ order f distance t k = last - k
 
 abbrev invariant-search : tie.invariant-search
@@ -114,53 +114,53 @@ vertex-in c = last_in c.search.invariant.0.state
 
 -- Its list was scanned.
 abbrev Scanned : Type 0
-Scanned = tie.After-scan-column invariant-loop decreases-loop invariant-search decreases-search
+Scanned = tie.After-scan_column-f invariant-loop decreases-loop invariant-search decreases-search
 
 abbrev turn : Scanned → Turn
 turn c = c.before.before.before.before.before
 
-same-vertex : (c : Scanned) → c.scan-column.result.vertex < vertices_in (begun (turn c)).args.s
-same-vertex c = omega (arith, c.scan-column.ensures.1.0, vertex-in (turn c))
+same-vertex : (c : Scanned) → c.scan_column-f.result.vertex < vertices_in (begun (turn c)).args.s
+same-vertex c = omega (arith, c.scan_column-f.ensures.1.0, vertex-in (turn c))
 
-vertex-low : (c : Scanned) → c.scan-column.result.vertex < most_vertices
+vertex-low : (c : Scanned) → c.scan_column-f.result.vertex < most_vertices
 vertex-low c = omega (arith, same-vertex c, few (net (begun (turn c))))
 
 -- A turn of the inner loop, which has come to a place of the vertex's edges.
 abbrev Inside : Type 0
-Inside = tie.In-loop invariant-loop decreases-loop invariant-search decreases-search
+Inside = tie.In-loop-k invariant-loop decreases-loop invariant-search decreases-search
 
 abbrev entered : Inside → Start
 entered c = begun (turn c.before.before.before.before.before.before.before.before.before)
 
-abbrev looped : tie.At-loop invariant-loop decreases-loop invariant-search decreases-search → Start
+abbrev looped : tie.At-loop-k invariant-loop decreases-loop invariant-search decreases-search → Start
 looped c = begun (turn c.before.before.before.before.before.before.before.before)
 
-place-low : (c : Inside) → c.before.loop.k < most_edges
+place-low : (c : Inside) → c.loop-k.k < most_edges
 place-low c =
     let start = entered c in
-    Growth.place-low (given start) (known start) (far-exits start) (gains start) c.before.loop.invariant.0 c.loop-test.true
+    Growth.place-low (given start) (known start) (far-exits start) (gains start) c.loop-k.invariant.0 c.loop-k-test.true
 
-edge_in : (c : Inside) → edges (arc (entered c)) c.before.loop.k < length (entered c).args.chosen.now
+edge_in : (c : Inside) → edges (arc (entered c)) c.loop-k.k < length (entered c).args.chosen.now
 edge_in c =
     let start = entered c in
-    Growth.edge_in (given start) (known start) (far-exits start) (gains start) c.before.loop.invariant.0 c.loop-test.true
+    Growth.edge_in (given start) (known start) (far-exits start) (gains start) c.loop-k.invariant.0 c.loop-k-test.true
 
 -- Both ways out of the loops.
 abbrev Out : Type 0
-Out = tie.Left-loop invariant-loop decreases-loop invariant-search decreases-search
+Out = tie.Left-loop-k invariant-loop decreases-loop invariant-search decreases-search
 
 abbrev left : Out → Scanned
 left c = c.before.before.before.before.before.before.before.before.before
 
 left_at : (c : Out) →
     let start = begun (turn (left c)) in
-    let out = c.loop-test in
+    let out = c.loop-k-test in
     Growth.LeftOff (graph start) start.args.chosen.now (price start) (exit start) out.t.label out.distance out.order (root start)
     (turn (left c)).search.count out.f.goal out.end
     × (out.t.end ≡ most_vertices)
 left_at c =
     let start = begun (turn (left c)) in
-    let inv = c.before.loop.invariant in
+    let inv = c.loop-k.invariant in
     let r = inv.0 in
     ⊎_elim
     (λ w.
@@ -171,58 +171,58 @@ left_at c =
       Growth.left_as w.6 w.7 w.8 w.9 w.10 (Growth.ends_last (net start) r w.3.ensures all w.5.taken),
       ap (λ (z : Tree). z.end) w.9 ∙ inv.1,
     ))
-    c.loop-test.branch
+    c.loop-k-test.branch
 
-element-copy-out-root : tie.Need-element-copy-out-root invariant-loop decreases-loop invariant-search decreases-search
+element-copy-out-root : tie.Need-bounds-order-0 invariant-loop decreases-loop invariant-search decreases-search
 element-copy-out-root c = omega arith
 
-cast-at : tie.Need-overflow-cast-at invariant-loop decreases-loop invariant-search decreases-search
+cast-at : tie.Need-overflow_cast-at invariant-loop decreases-loop invariant-search decreases-search
 cast-at c = omega (arith, root-low c.before.before.before.before)
 
-mul-root-exit : tie.Need-overflow-mul-root-exit invariant-loop decreases-loop invariant-search decreases-search
+mul-root-exit : tie.Need-offset_bounds-price-at invariant-loop decreases-loop invariant-search decreases-search
 mul-root-exit c = omega (arith, root-low c.before.before.before.before)
 
-element-copy-out-root-exit : tie.Need-element-copy-out-root-exit invariant-loop decreases-loop invariant-search decreases-search
+element-copy-out-root-exit : tie.Need-bounds-price-at invariant-loop decreases-loop invariant-search decreases-search
 element-copy-out-root-exit c = omega (arith, root-low c.before.before.before.before)
 
-mul-root-exit-2 : tie.Need-overflow-mul-root-exit-2 invariant-loop decreases-loop invariant-search decreases-search
+mul-root-exit-2 : tie.Need-offset_bounds-used-at invariant-loop decreases-loop invariant-search decreases-search
 mul-root-exit-2 c = omega (arith, root-low c.before.before.before.before.before)
 
-element-copy-out-root-exit-2 : tie.Need-element-copy-out-root-exit-2 invariant-loop decreases-loop invariant-search decreases-search
+element-copy-out-root-exit-2 : tie.Need-bounds-used-at invariant-loop decreases-loop invariant-search decreases-search
 element-copy-out-root-exit-2 c = omega (arith, root-low c.before.before.before.before.before)
 
-add-root-exit : tie.Need-overflow-add-root-exit invariant-loop decreases-loop invariant-search decreases-search
+add-root-exit : tie.Need-overflow_add-at invariant-loop decreases-loop invariant-search decreases-search
 add-root-exit c = omega (arith, root-low c.before.before.before.before.before.before)
 
-mul-root-exit-3 : tie.Need-overflow-mul-root-exit-3 invariant-loop decreases-loop invariant-search decreases-search
+mul-root-exit-3 : tie.Need-offset_bounds-table-at invariant-loop decreases-loop invariant-search decreases-search
 mul-root-exit-3 c = omega (arith, root-low c.before.before.before.before.before.before)
 
-element-copy-out-root-exit-3 : tie.Need-element-copy-out-root-exit-3 invariant-loop decreases-loop invariant-search decreases-search
+element-copy-out-root-exit-3 : tie.Need-bounds-table-at invariant-loop decreases-loop invariant-search decreases-search
 element-copy-out-root-exit-3 c = omega (arith, root-low c.before.before.before.before.before.before)
 
-root-exit-requires : tie.Need-root-exit-requires invariant-loop decreases-loop invariant-search decreases-search
+root-exit-requires : tie.Need-root_exit-exit-requires invariant-loop decreases-loop invariant-search decreases-search
 root-exit-requires c κs =
     let start = c.before.before.before.before.before.before.before in
     (Exits.root-price (net start) (good start) (known start).between.degrees (rooted start), omega (arith, (good start).high _ (root_in start)))
 
-mul-distance : tie.Need-overflow-mul-distance invariant-loop decreases-loop invariant-search decreases-search
+mul-distance : tie.Need-offset_bounds-distance-at invariant-loop decreases-loop invariant-search decreases-search
 mul-distance c = omega (arith, root-low c.before.before.before.before.before.before.before.before)
 
-array-write-distance : tie.Need-array-write-distance invariant-loop decreases-loop invariant-search decreases-search
+array-write-distance : tie.Need-bounds-distance-at invariant-loop decreases-loop invariant-search decreases-search
 array-write-distance c = omega (arith, root-low c.before.before.before.before.before.before.before.before)
 
 search-holds : tie.Need-search-init invariant-loop decreases-loop invariant-search decreases-search
 search-holds c =
     let at-root-exit = c.before in
     let start = at-root-exit.before.before.before.before.before.before.before.before in
-    let goal = at-root-exit.root-exit.ensures in
+    let goal = at-root-exit.root_exit-exit.ensures in
     let own = Exits.exit_own start.args.s.rows (price start) (used start) (leasts (table start)) (mosts (table start)) (root start) in
-    let made = c.unlabelled.ensures in (
+    let made = c.unlabelled-t.ensures in (
       Growth.begun (net start) (rooted start).near (ap length made.0 ∙ length-replicate {A = ℕ} most_vertices 0) start.requires.1.1.1.1 (goal.0 ∙ sym own) goal.1,
       made.1,
     )
 
-scan-column-requires : tie.Need-scan-column-requires invariant-loop decreases-loop invariant-search decreases-search
+scan-column-requires : tie.Need-scan_column-f-requires invariant-loop decreases-loop invariant-search decreases-search
 scan-column-requires c κs =
     let at-search = c.before.before.before.before in
     let start = begun at-search in
@@ -234,16 +234,16 @@ scan-column-requires c κs =
       ),
     )
 
-cast-u : tie.Need-overflow-cast-u invariant-loop decreases-loop invariant-search decreases-search
+cast-u : tie.Need-overflow_cast-u invariant-loop decreases-loop invariant-search decreases-search
 cast-u c = omega (arith, vertex-low c.before)
 
-mul-base : tie.Need-overflow-mul-base invariant-loop decreases-loop invariant-search decreases-search
+mul-base : tie.Need-offset_bounds-price-u invariant-loop decreases-loop invariant-search decreases-search
 mul-base c = omega (arith, vertex-low c.before)
 
-element-copy-out-base : tie.Need-element-copy-out-base invariant-loop decreases-loop invariant-search decreases-search
+element-copy-out-base : tie.Need-bounds-price-u invariant-loop decreases-loop invariant-search decreases-search
 element-copy-out-base c = omega (arith, vertex-low c.before)
 
-add-base : tie.Need-overflow-add-base invariant-loop decreases-loop invariant-search decreases-search
+add-base : tie.Need-overflow_add-base invariant-loop decreases-loop invariant-search decreases-search
 add-base c =
     let at-scan = c.before.before.before in
     let at-search = turn at-scan in
@@ -251,148 +251,148 @@ add-base c =
     let s = at-search.search.inv.0 in
     omega (
       arith,
-      at-scan.scan-column.ensures.1.1,
+      at-scan.scan_column-f.ensures.1.1,
       Growth.near-far (given start) (known start) (near-exits start) s,
       (good start).high _ (same-vertex at-scan),
     )
 
-cast-pick : tie.Need-overflow-cast-pick invariant-loop decreases-loop invariant-search decreases-search
+cast-pick : tie.Need-overflow_cast-s invariant-loop decreases-loop invariant-search decreases-search
 cast-pick c =
     let start = c.before.before.before.before.before.before.before.before.before.before.before.before.before.before.before.before.before.before.before in
     omega (arith, (net start).passed.sound.sizes.rows.greatest)
 
-add-pick : tie.Need-overflow-add-pick invariant-loop decreases-loop invariant-search decreases-search
+add-pick : tie.Need-overflow_add-u invariant-loop decreases-loop invariant-search decreases-search
 add-pick c = omega (arith, vertex-low c.before.before.before.before)
 
-mul-pick : tie.Need-overflow-mul-pick invariant-loop decreases-loop invariant-search decreases-search
+mul-pick : tie.Need-offset_bounds-table-u invariant-loop decreases-loop invariant-search decreases-search
 mul-pick c = omega (arith, vertex-low c.before.before.before.before)
 
-element-copy-out-pick : tie.Need-element-copy-out-pick invariant-loop decreases-loop invariant-search decreases-search
+element-copy-out-pick : tie.Need-bounds-table-u invariant-loop decreases-loop invariant-search decreases-search
 element-copy-out-pick c = omega (arith, vertex-low c.before.before.before.before)
 
-mul-k : tie.Need-overflow-mul-k invariant-loop decreases-loop invariant-search decreases-search
+mul-k : tie.Need-offset_bounds-table-u-in-search invariant-loop decreases-loop invariant-search decreases-search
 mul-k c = omega (arith, vertex-low c.before.before.before.before.before.before)
 
-element-copy-out-k : tie.Need-element-copy-out-k invariant-loop decreases-loop invariant-search decreases-search
+element-copy-out-k : tie.Need-bounds-table-u-in-search invariant-loop decreases-loop invariant-search decreases-search
 element-copy-out-k c = omega (arith, vertex-low c.before.before.before.before.before.before)
 
-loop-holds : tie.Need-loop-init invariant-loop decreases-loop invariant-search decreases-search
+loop-holds : tie.Need-loop-k-init invariant-loop decreases-loop invariant-search decreases-search
 unfolding Growth.column-scan
 loop-holds c =
     let at-scan = c.before.before.before.before.before.before.before in
     let at-search = turn at-scan in
     let start = begun at-search in
     let inv = at-search.search.inv in
-    let after = at-scan.scan-column.ensures in
+    let after = at-scan.scan_column-f.ensures in
     let s = after.0 (Growth.column-scan (given start) (known start) (near-exits start) inv.0) in
-    (Growth.row-begun {v = at-search.search.f.vertex} (given start) (known start) after.1.0 s c.before.pick.ensures, inv.1)
+    (Growth.row-begun {v = at-search.search.f.vertex} (given start) (known start) after.1.0 s c.pick-last.ensures, inv.1)
 
-cast-at-2 : tie.Need-overflow-cast-at-2 invariant-loop decreases-loop invariant-search decreases-search
+cast-at-2 : tie.Need-overflow_cast-at-in-loop-k invariant-loop decreases-loop invariant-search decreases-search
 cast-at-2 c = omega arith
 
-mul-e : tie.Need-overflow-mul-e invariant-loop decreases-loop invariant-search decreases-search
+mul-e : tie.Need-offset_bounds-arc-at invariant-loop decreases-loop invariant-search decreases-search
 mul-e c = omega (arith, place-low (c))
 
-element-copy-out-e : tie.Need-element-copy-out-e invariant-loop decreases-loop invariant-search decreases-search
+element-copy-out-e : tie.Need-bounds-arc-at invariant-loop decreases-loop invariant-search decreases-search
 element-copy-out-e c = omega (arith, place-low (c))
 
-add-look : tie.Need-overflow-add-look invariant-loop decreases-loop invariant-search decreases-search
+add-look : tie.Need-overflow_add-at-in-loop-k invariant-loop decreases-loop invariant-search decreases-search
 add-look c = omega (arith, place-low c.before.before.before.before.before)
 
-mul-look : tie.Need-overflow-mul-look invariant-loop decreases-loop invariant-search decreases-search
+mul-look : tie.Need-offset_bounds-arc-at-in-loop-k invariant-loop decreases-loop invariant-search decreases-search
 mul-look c = omega (arith, place-low c.before.before.before.before.before)
 
-element-copy-out-look : tie.Need-element-copy-out-look invariant-loop decreases-loop invariant-search decreases-search
+element-copy-out-look : tie.Need-bounds-arc-at-in-loop-k invariant-loop decreases-loop invariant-search decreases-search
 element-copy-out-look c = omega (arith, place-low c.before.before.before.before.before)
 
-add-look-2 : tie.Need-overflow-add-look-2 invariant-loop decreases-loop invariant-search decreases-search
+add-look-2 : tie.Need-overflow_add-at-in-loop-k-2 invariant-loop decreases-loop invariant-search decreases-search
 add-look-2 c = omega (arith, place-low c.before.before.before.before.before.before)
 
-mul-look-2 : tie.Need-overflow-mul-look-2 invariant-loop decreases-loop invariant-search decreases-search
+mul-look-2 : tie.Need-offset_bounds-arc-at-in-loop-k-2 invariant-loop decreases-loop invariant-search decreases-search
 mul-look-2 c = omega (arith, place-low c.before.before.before.before.before.before)
 
-element-copy-out-look-2 : tie.Need-element-copy-out-look-2 invariant-loop decreases-loop invariant-search decreases-search
+element-copy-out-look-2 : tie.Need-bounds-arc-at-in-loop-k-2 invariant-loop decreases-loop invariant-search decreases-search
 element-copy-out-look-2 c = omega (arith, place-low c.before.before.before.before.before.before)
 
-cast-look : tie.Need-overflow-cast-look invariant-loop decreases-loop invariant-search decreases-search
+cast-look : tie.Need-overflow_cast-e invariant-loop decreases-loop invariant-search decreases-search
 cast-look c =
     let inside = c.before.before.before.before.before.before.before in
     let start = entered inside in
     omega (arith, edge_in inside, (good start).long, small (net start))
 
-shared-slice-read-look : tie.Need-shared-slice-read-look invariant-loop decreases-loop invariant-search decreases-search
+shared-slice-read-look : tie.Need-bounds-chosen-e invariant-loop decreases-loop invariant-search decreases-search
 shared-slice-read-look c = edge_in c.before.before.before.before.before.before.before.before
 
-look-requires : tie.Need-look-requires invariant-loop decreases-loop invariant-search decreases-search
+look-requires : tie.Need-look-f-requires invariant-loop decreases-loop invariant-search decreases-search
 look-requires c κs =
     let inside = c.before.before.before.before.before.before.before.before in
     let start = entered inside in
-    let r = inside.before.loop.invariant.0 in
-    let l = inside.loop-test.true in
+    let r = inside.loop-k.invariant.0 in
+    let l = inside.loop-k-test.true in
     ((Growth.head_in (given start) (known start) (far-exits start) (gains start) r l, roomy (net start) r.scan), Growth.lookable (given start) (known start) (far-exits start) (gains start) r l)
 
-add-k : tie.Need-overflow-add-k invariant-loop decreases-loop invariant-search decreases-search
+add-k : tie.Need-overflow_add-k invariant-loop decreases-loop invariant-search decreases-search
 add-k c = omega (arith, place-low c.before.before.before.before.before.before.before.before.before.before.before)
 
-loop-less : tie.Need-loop-smaller invariant-loop decreases-loop invariant-search decreases-search
-loop-less c = omega (arith, c.before.before.before.before.before.before.before.before.before.before.before.loop-test.true)
+loop-less : tie.Need-loop-k-smaller invariant-loop decreases-loop invariant-search decreases-search
+loop-less c = omega (arith, c.loop-k-test.true)
 
-loop-again : tie.Need-loop-preserved invariant-loop decreases-loop invariant-search decreases-search
+loop-again : tie.Need-loop-k-preserved invariant-loop decreases-loop invariant-search decreases-search
 loop-again c =
     let at-look = c.before.before in
     let inside = at-look.before.before.before.before.before.before.before.before.before in
     let start = entered inside in
-    let inv = inside.before.loop.invariant in
-    (Growth.turned (given start) (known start) (far-exits start) (gains start) inv.0 inside.loop-test.true at-look.look.ensures, inv.1)
+    let inv = inside.loop-k.invariant in
+    (Growth.turned (given start) (known start) (far-exits start) (gains start) inv.0 inside.loop-k-test.true at-look.look-f.ensures, inv.1)
 
-nearest-requires : tie.Need-nearest-requires invariant-loop decreases-loop invariant-search decreases-search
+nearest-requires : tie.Need-nearest-at-requires invariant-loop decreases-loop invariant-search decreases-search
 nearest-requires c κs =
     let at-loop = c.before.before.before in
     let start = looped at-loop in
     Growth.searchable (net start) at-loop.loop.invariant.0
 
-settle-requires : tie.Need-settle-requires invariant-loop decreases-loop invariant-search decreases-search
+settle-requires : tie.Need-settle-v-requires invariant-loop decreases-loop invariant-search decreases-search
 settle-requires c κs =
     let at-if2 = c.before in
     let at-nearest = at-if2.before.before in
     let at-loop = at-nearest.before.before.before.before in
     let start = looped at-loop in
     let r = at-loop.loop.invariant.0 in
-    let n = at-nearest.nearest.ensures in
-    let ne = at-if2.if2.false in
+    let n = at-nearest.nearest-at.ensures in
+    let ne = at-if2.if-at-f.false in
     (Growth.open-low (net start) r n ne, Growth.count_low (net start) r n ne)
 
-add-count : tie.Need-overflow-add-count invariant-loop decreases-loop invariant-search decreases-search
+add-count : tie.Need-overflow_add-count invariant-loop decreases-loop invariant-search decreases-search
 add-count c =
     let at-if2 = c.before.before in
     let at-nearest = at-if2.before.before in
     let at-loop = at-nearest.before.before.before.before in
     let start = looped at-loop in
-    omega (arith, Growth.count_low (net start) at-loop.loop.invariant.0 at-nearest.nearest.ensures at-if2.if2.false)
+    omega (arith, Growth.count_low (net start) at-loop.loop.invariant.0 at-nearest.nearest-at.ensures at-if2.if-at-f.false)
 
-cast-settled : tie.Need-overflow-cast-settled invariant-loop decreases-loop invariant-search decreases-search
+cast-settled : tie.Need-overflow_cast-v invariant-loop decreases-loop invariant-search decreases-search
 cast-settled c =
     let at-if2 = c.before.before in
     let at-nearest = at-if2.before.before in
     let at-loop = at-nearest.before.before.before.before in
     let start = looped at-loop in
-    omega (arith, few (net start), Growth.next-in (net start) at-loop.loop.invariant.0 at-nearest.nearest.ensures at-if2.if2.false c.settle.ensures)
+    omega (arith, few (net start), Growth.next-in (net start) at-loop.loop.invariant.0 at-nearest.nearest-at.ensures at-if2.if-at-f.false c.settle-v.ensures)
 
-mul-settled : tie.Need-overflow-mul-settled invariant-loop decreases-loop invariant-search decreases-search
+mul-settled : tie.Need-offset_bounds-distance-v invariant-loop decreases-loop invariant-search decreases-search
 mul-settled c =
     let at-if2 = c.before.before in
     let at-nearest = at-if2.before.before in
     let at-loop = at-nearest.before.before.before.before in
     let start = looped at-loop in
-    omega (arith, few (net start), Growth.next-in (net start) at-loop.loop.invariant.0 at-nearest.nearest.ensures at-if2.if2.false c.settle.ensures)
+    omega (arith, few (net start), Growth.next-in (net start) at-loop.loop.invariant.0 at-nearest.nearest-at.ensures at-if2.if-at-f.false c.settle-v.ensures)
 
-array-read-settled : tie.Need-array-read-settled invariant-loop decreases-loop invariant-search decreases-search
+array-read-settled : tie.Need-bounds-distance-v invariant-loop decreases-loop invariant-search decreases-search
 array-read-settled c =
     let at-if2 = c.before.before in
     let at-nearest = at-if2.before.before in
     let at-loop = at-nearest.before.before.before.before in
     let start = looped at-loop in
-    omega (arith, few (net start), Growth.next-in (net start) at-loop.loop.invariant.0 at-nearest.nearest.ensures at-if2.if2.false c.settle.ensures)
+    omega (arith, few (net start), Growth.next-in (net start) at-loop.loop.invariant.0 at-nearest.nearest-at.ensures at-if2.if-at-f.false c.settle-v.ensures)
 
 search-less : tie.Need-search-smaller invariant-loop decreases-loop invariant-search decreases-search
 search-less c =
@@ -400,7 +400,7 @@ search-less c =
     let at-nearest = at-if2.before.before in
     let at-loop = at-nearest.before.before.before.before in
     let start = looped at-loop in
-    omega (arith, Growth.count_less (net start) at-loop.loop.invariant.0 at-nearest.nearest.ensures at-if2.if2.false)
+    omega (arith, Growth.count_less (net start) at-loop.loop.invariant.0 at-nearest.nearest-at.ensures at-if2.if-at-f.false)
 
 search-again : tie.Need-search-preserved invariant-loop decreases-loop invariant-search decreases-search
 search-again c =
@@ -413,10 +413,10 @@ search-again c =
     let inv = at-loop.loop.invariant in
     let r = inv.0 in
     let all = Growth.looked-all (given start) (known start) (far-exits start) (gains start) r (rooted start).near (exits start) (omega (arith, at-loop-test.loop-test.false)) in
-    let s = Growth.grown (net start) r at-nearest.nearest.ensures at-if2.if2.false at-settle.settle.ensures all in
-    (Growth.front-as c.settled.ensures s, inv.1)
+    let s = Growth.grown (net start) r at-nearest.nearest-at.ensures at-if2.if-at-f.false at-settle.settle-v.ensures all in
+    (Growth.front-as c.settled-f.ensures s, inv.1)
 
-returns : tie.Need-returns invariant-loop decreases-loop invariant-search decreases-search
+returns : tie.Need-returns-then-f-eq-FAR invariant-loop decreases-loop invariant-search decreases-search
 returns c =
     let at_out = c.before.before in
     let start = begun (turn (left at_out)) in
@@ -424,12 +424,12 @@ returns c =
     let arrays = start.pre.1.1.1 in (
       record {
         found = λ l. absurd (omega (arith, l, out.1));
-        none = λ l. Growth.stuck (net start) (good start) (rooted start).near (exits start) out.0.leaving c.if3.true;
+        none = λ l. Growth.stuck (net start) (good start) (rooted start).near (exits start) out.0.leaving c.if-f-eq-FAR.true;
       },
       (arrays.0, out.0.order-long),
     )
 
-move-prices-requires : tie.Need-move-prices-requires invariant-loop decreases-loop invariant-search decreases-search
+move-prices-requires : tie.Need-move_prices-requires invariant-loop decreases-loop invariant-search decreases-search
 move-prices-requires c κs =
     let at-if3 = c.before.before.before in
     let at_out = at-if3.before.before in
@@ -437,21 +437,21 @@ move-prices-requires c κs =
     let out = left_at at_out in
     (Growth.movable (net start) (good start) (rooted start).near (exits start) out.0.leaving at-if3.if3.false, start.pre.1.1.1.0)
 
-returns-2 : tie.Need-returns-2 invariant-loop decreases-loop invariant-search decreases-search
+returns-2 : tie.Need-returns invariant-loop decreases-loop invariant-search decreases-search
 returns-2 c =
     let at-move-prices = c.before in
     let at-if3 = at-move-prices.before.before.before.before in
     let at_out = at-if3.before.before in
     let start = begun (turn (left at_out)) in
     let out = left_at at_out in
-    let moved = at-move-prices.move-prices.ensures in
+    let moved = at-move-prices.move_prices.ensures in
     let ended = Growth.ended (net start) (good start) (rooted start).near (exits start) out.0.leaving at-if3.if3.false moved.0 in (
       record { found = λ l. ended; none = λ l. absurd (omega (arith, l, ended.inside, few (net start))) },
       (moved.1, out.0.order-long),
     )
 
-pub find-end-spec : {M : Type 1} → statement M
-find-end-spec =
+pub find_end_spec : {M : Type 1} → statement M
+find_end_spec =
     tie.close
     (tie.spec
     invariant-loop

@@ -5,14 +5,17 @@ use Rattle.method.proofs.Tests.{if_less, if_not_less}
 use Rattle.search.proofs.root_exit.Statement.{statement}
 use Rattle.search.proofs.root_exit.Tie as tie
 
-sub-result : tie.Need-overflow-sub-result
-sub-result c = c.before.requires.0 c.if1.false
+sub-result : tie.Need-overflow_sub-result
+sub-result c = c.requires.0 c.if-used-least.false
 
-returns : tie.Need-returns
-returns c = (sym (if_less _ _ c.if1.true), omega arith)
+returns : tie.Need-returns-then-used-least
+returns c = (sym (if_less _ _ c.if-used-least.true), omega arith)
 
-returns-2 : tie.Need-returns-2
-returns-2 c = (sym (if_not_less _ _ c.if1.false), omega (arith, c.before.requires.1))
+returns-2 : tie.Need-returns-else-used-least
+returns-2 c = (sym (if_not_less _ _ c.if-used-least.false), omega (arith, c.requires.1))
 
-pub root-exit-spec : {M : Type 1} → statement M
-root-exit-spec = tie.close (tie.spec sub-result returns returns-2)
+pub root_exit_spec : {M : Type 1} → statement M
+root_exit_spec = tie.close (tie.spec
+    sub-result
+    returns
+    returns-2)

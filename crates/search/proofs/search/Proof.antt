@@ -9,30 +9,30 @@ use borrow.Author.Rules.{rules}
 use Rattle.search.proofs.search.Statement.{statement}
 use Rattle.search.proofs.search.Tie as tie
 
-find-end-requires : tie.Need-find-end-requires
+find-end-requires : tie.Need-find_end-t-requires
 find-end-requires c κs =
-    let start = c.before.before.before.before.before.before.before.before.before in
+    let start = c in
     let given = start.requires.0 in
     let between = start.requires.1.0 in
     let rooted = start.requires.1.1.0 in
     let arrays = start.requires.1.1.1 in
     (given, (record { place = _; between = between }, (rooted, (arrays.price-long, arrays.order-long))))
 
-returns : tie.Need-returns
+returns : tie.Need-returns-then-end-ge-MOST_VERTICES
 returns c =
-    let start = c.before.before.before.before.before.before.before.before.before.before.before in
+    let start = c in
     let arrays = start.requires.1.1.1 in
-    let end = c.before.find-end.ensures in (
-      record { found = λ e. absurd (false≢true e); none = λ e. end.0.none c.if1.true },
+    let end = c.find_end-t.ensures in (
+      record { found = λ e. absurd (false≢true e); none = λ e. end.0.none c.if-end-ge-MOST_VERTICES.true },
       record { price_long = end.1.0; used_long = arrays.used-long; place_long = arrays.place-long; order_long = end.1.1 },
     )
 
-list-of-requires : tie.Need-list-of-requires
+list-of-requires : tie.Need-list_of-p-requires
 list-of-requires c κs =
-    let start = c.before.before.before.before.before.before.before.before.before.before.before.before in
+    let start = c in
     let given = start.requires.0 in
     let between = start.requires.1.0 in
-    let ended = c.before.before.find-end.ensures.0.found c.before.if1.false in
+    let ended = c.find_end-t.ensures.0.found c.if-end-ge-MOST_VERTICES.false in
     let span = spanned given between ended.inside in
     record { inside = span.inside; room = λ l. omega (arith, span.room l, small given.net) }
 
@@ -41,18 +41,18 @@ augment-requires c κs =
     let at-list-of = c.before.before.before.before.before in
     let at-if1 = at-list-of.before.before in
     let at-find-end = at-if1.before in
-    let start = at-find-end.before.before.before.before.before.before.before.before.before.before in
+    let start = at-find-end in
     let given = start.requires.0 in
     let between = start.requires.1.0 in
     let arrays = start.requires.1.1.1 in
     let ended = at-find-end.find-end.ensures.0.found at-if1.if1.false in
     (ranked given.net ended, relistable _ _ given between ended arrays.place-long at-list-of.list_of.ensures.1)
 
-count-path-requires : tie.Need-count-path-requires
+count-path-requires : tie.Need-count_path-requires
 count-path-requires c κs =
     let at-if1 = c.before.before.before.before.before.before.before.before.before.before.before.before in
     let at-find-end = at-if1.before in
-    let start = at-find-end.before.before.before.before.before.before.before.before.before.before in
+    let start = at-find-end in
     let given = start.requires.0 in
     let between = start.requires.1.0 in
     let rooted = start.requires.1.1.0 in
@@ -60,12 +60,12 @@ count-path-requires c κs =
     let ended = at-find-end.find-end.ensures.0.found at-if1.if1.false in
     (countable given.net between ended rooted.room, arrays.used-long)
 
-returns-2 : tie.Need-returns-2
+returns-2 : tie.Need-returns
 returns-2 c =
     let at-augment = c.before.before.before.before.before in
     let at-if1 = at-augment.before.before.before.before.before.before.before.before in
     let at-find-end = at-if1.before in
-    let start = at-find-end.before.before.before.before.before.before.before.before.before.before in
+    let start = at-find-end in
     let given = start.requires.0 in
     let between = start.requires.1.0 in
     let rooted = start.requires.1.1.0 in
@@ -73,7 +73,7 @@ returns-2 c =
     let net = given.net in
     let end = at-find-end.find-end.ensures.1 in
     let flipped = at-augment.augment.ensures in
-    let counted = c.count-path.ensures in
+    let counted = c.count_path.ensures in
     let path = walked net ended flipped.0 in
     let lists = reweigh flipped.1.0 in (
       record {
@@ -83,8 +83,8 @@ returns-2 c =
       record { price_long = end.0; used_long = counted.1; place_long = flipped.1.1; order_long = end.1 },
     )
 
-pub search-spec : {M : Type 1} → statement M
-search-spec =
+pub search_spec : {M : Type 1} → statement M
+search_spec =
     tie.close
     (tie.spec
     (λ c. search rules)

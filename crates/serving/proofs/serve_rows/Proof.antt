@@ -14,7 +14,7 @@ use Rattle.serving.proofs.Serving.{went_ill, went_well, rooted, served, ServedTo
 use Rattle.serving.proofs.serve_rows.Statement.{statement}
 use Rattle.serving.proofs.serve_rows.Tie as tie
 
-abbrev invariant-loop : tie.invariant-loop
+abbrev invariant-loop : tie.invariant-loop-i
 invariant-loop s row column weight arc table chosen₀ list₀ place₀ price₀ used₀ serving count order₀ i₀ chosen list place price used order i =
     (length chosen ≡ length chosen₀)
     × (length list ≡ length list₀)
@@ -22,7 +22,7 @@ invariant-loop s row column weight arc table chosen₀ list₀ place₀ price₀
     (naturals list) (entries place)
     × Arrays s.edges price used place order
 
-abbrev decreases-loop : tie.decreases-loop
+abbrev decreases-loop : tie.decreases-loop-i
 decreases-loop s row column weight arc table chosen₀ list₀ place₀ price₀ used₀ serving count order₀ i₀ chosen list place price used order i =
     left_from (mosts table) (entries serving.list) (entries used) (entries price) count i
 
@@ -34,16 +34,16 @@ abbrev graph : Start → Graph
 graph c = graph_of c.args.s c.args.row.now c.args.column.now c.args.weight.now
 
 abbrev Inside : Type 0
-Inside = tie.In-loop invariant-loop decreases-loop
+Inside = tie.In-loop-i invariant-loop decreases-loop
 
 abbrev begun : Inside → Start
 begun c = c.before.before.before.before.before
 
 abbrev root : Inside → ℕ
-root c = entries (begun c).args.t7.list c.before.loop.i
+root c = entries (begun c).args.t7.list c.loop-i.i
 
 root-near : (c : Inside) → root c < (begun c).args.s.rows
-root-near c = (begun c).requires.1.0.inside c.before.loop.i c.loop-test.true
+root-near c = (begun c).requires.1.0.inside c.loop-i.i c.loop-i-test.true
 
 root_in : (c : Inside) → root c < vertices (graph (begun c))
 root_in c = omega (arith, root-near c, rows_in (begun c).requires.0.net)
@@ -51,37 +51,37 @@ root_in c = omega (arith, root-near c, rows_in (begun c).requires.0.net)
 root-low : (c : Inside) → root c < most_vertices
 root-low c = omega (arith, root_in c, few (begun c).requires.0.net)
 
-place-low : (c : Inside) → c.before.loop.i < most_vertices
+place-low : (c : Inside) → c.loop-i.i < most_vertices
 place-low c =
     let start = begun c in
     let net = start.pre.0.net in
-    omega (arith, c.loop-test.true, start.pre.1.0.few, rows_in net, few net)
+    omega (arith, c.loop-i-test.true, start.pre.1.0.few, rows_in net, few net)
 
-loop-holds : tie.Need-loop-init invariant-loop decreases-loop
+loop-holds : tie.Need-loop-i-init invariant-loop decreases-loop
 loop-holds c =
-    let pre = c.before.before.before.requires.1.1 in
+    let pre = c.requires.1.1 in
     let long = pre.1 in
     (refl, refl, Serving.none-served pre.0, record { price_long = long.0; used_long = long.1; place_long = long.2; order_long = omega arith })
 
-cast-root : tie.Need-overflow-cast-root invariant-loop decreases-loop
+cast-root : tie.Need-overflow_cast-root invariant-loop decreases-loop
 cast-root c = omega (arith, place-low (c))
 
-mul-root : tie.Need-overflow-mul-root invariant-loop decreases-loop
+mul-root : tie.Need-offset_bounds-serving-i invariant-loop decreases-loop
 mul-root c = omega (arith, place-low (c))
 
-element-copy-out-root : tie.Need-element-copy-out-root invariant-loop decreases-loop
+element-copy-out-root : tie.Need-bounds-serving-i invariant-loop decreases-loop
 element-copy-out-root c = omega (arith, place-low (c))
 
-cast-is-unserved : tie.Need-overflow-cast-is-unserved invariant-loop decreases-loop
+cast-is-unserved : tie.Need-overflow_cast-root-in-loop-i invariant-loop decreases-loop
 cast-is-unserved c = omega (arith, root-low c.before.before.before)
 
-is-unserved-requires : tie.Need-is-unserved-requires invariant-loop decreases-loop
+is-unserved-requires : tie.Need-is_unserved-requires invariant-loop decreases-loop
 is-unserved-requires c κs = root-low c.before.before.before
 
-array-write-order : tie.Need-array-write-order invariant-loop decreases-loop
-array-write-order c = omega (arith, c.before.before.before.before.before.before.loop.invariant.3.order-long)
+array-write-order : tie.Need-bounds-order-0 invariant-loop decreases-loop
+array-write-order c = omega (arith, c.loop-i.invariant.3.order-long)
 
-search-requires : tie.Need-search-requires invariant-loop decreases-loop
+search-requires : tie.Need-search-found-requires invariant-loop decreases-loop
 search-requires c κs =
     let at-if1 = c.before.before.before.before.before.before in
     let at-is-unserved = at-if1.before in
@@ -89,7 +89,7 @@ search-requires c κs =
     let start = begun inside in
     let inv = inside.before.loop.invariant in
     let long = inv.3.order-long in
-    let root_is = rooted (root-near inside) (root_in inside) inv.2.between at-is-unserved.is-unserved.ensures at-if1.if1.true in
+    let root_is = rooted (root-near inside) (root_in inside) inv.2.between at-is-unserved.is_unserved.ensures at-if1.if-is_unserved.true in
     let given = start.pre.0 in
     let arrays = inv.3 in (
       record { net = given.net; kept = given.kept; begins = given.begins; room = omega (arith, inv.1, given.room) },
@@ -102,29 +102,29 @@ search-requires c κs =
       ),
     )
 
-same_length : tie.Need-same-length invariant-loop decreases-loop
+same_length : tie.Need-shape_of-chosen-then-not-found invariant-loop decreases-loop
 same_length c =
     let at-search = c.before.before.before.before in
     let at-loop = at-search.before.before.before.before.before.before.before.before.before.before.before.before.before in
     let inv = at-loop.loop.invariant in
-    let kept = at-search.search.auto.1.1.1.1.1.1 in
+    let kept = at-search.search-found.auto.1.1.1.1.1.1 in
     omega (arith, kept.0, inv.0)
 
-same-length-2 : tie.Need-same-length-2 invariant-loop decreases-loop
+same-length-2 : tie.Need-shape_of-list-then-not-found invariant-loop decreases-loop
 same-length-2 c =
     let at-search = c.before.before.before.before in
     let at-loop = at-search.before.before.before.before.before.before.before.before.before.before.before.before.before in
     let inv = at-loop.loop.invariant in
-    let kept = at-search.search.auto.1.1.1.1.1.1 in
+    let kept = at-search.search-found.auto.1.1.1.1.1.1 in
     omega (arith, kept.1.0, inv.1)
 
-returns : tie.Need-returns invariant-loop decreases-loop
+returns : tie.Need-returns-then-not-found invariant-loop decreases-loop
 returns c =
     let at-search = c.before.before.before.before in
-    let sought = at-search.search.ensures in
-    record { served = λ e. absurd (false≢true e); none = λ e. sought.0.none (went_ill at-search.search.result c.if2.true) }
+    let sought = at-search.search-found.ensures in
+    record { served = λ e. absurd (false≢true e); none = λ e. sought.0.none (went_ill at-search.search-found.result c.if-not-found.true) }
 
-loop-less : tie.Need-loop-smaller invariant-loop decreases-loop
+loop-less : tie.Need-loop-i-smaller-else-not-found invariant-loop decreases-loop
 loop-less c =
     let at-search = c.before.before.before.before in
     let at-if1 = at-search.before.before.before.before.before.before.before in
@@ -132,13 +132,13 @@ loop-less c =
     let inside = at-is-unserved.before.before.before.before in
     let start = begun inside in
     let inv = inside.before.loop.invariant in
-    let root_is = rooted (root-near inside) (root_in inside) inv.2.between at-is-unserved.is-unserved.ensures at-if1.if1.true in
-    let sought = at-search.search.ensures in
-    let got = sought.0.found (went_well at-search.search.result c.if2.false) in
+    let root_is = rooted (root-near inside) (root_in inside) inv.2.between at-is-unserved.is_unserved.ensures at-if1.if-is_unserved.true in
+    let sought = at-search.search-found.ensures in
+    let got = sought.0.found (went_well at-search.search-found.result c.if-not-found.false) in
     let found = Serving.sought-first inside.before.loop.order (root inside) inv.3.order-long got in
     Serving.left-fewer start.pre.1.0 inside.loop-test.true (rows_in start.pre.0.net) inv.2.between root_is found
 
-loop-again : tie.Need-loop-preserved invariant-loop decreases-loop
+loop-again : tie.Need-loop-i-preserved-else-not-found invariant-loop decreases-loop
 loop-again c =
     let at-search = c.before.before.before.before in
     let at-if1 = at-search.before.before.before.before.before.before.before in
@@ -146,47 +146,47 @@ loop-again c =
     let inside = at-is-unserved.before.before.before.before in
     let start = begun inside in
     let inv = inside.before.loop.invariant in
-    let root_is = rooted (root-near inside) (root_in inside) inv.2.between at-is-unserved.is-unserved.ensures at-if1.if1.true in
-    let sought = at-search.search.ensures in
-    let got = sought.0.found (went_well at-search.search.result c.if2.false) in
+    let root_is = rooted (root-near inside) (root_in inside) inv.2.between at-is-unserved.is_unserved.ensures at-if1.if-is_unserved.true in
+    let sought = at-search.search-found.ensures in
+    let got = sought.0.found (went_well at-search.search-found.result c.if-not-found.false) in
     let found = Serving.sought-first inside.before.loop.order (root inside) inv.3.order-long got in
-    let kept = at-search.search.auto.1.1.1.1.1.1 in (
+    let kept = at-search.search-found.auto.1.1.1.1.1.1 in (
       omega (arith, kept.0, inv.0),
       omega (arith, kept.1.0, inv.1),
       Serving.still start.pre.1.0 inside.loop-test.true inv.2 root_is found,
       sought.1,
     )
 
-add-i : tie.Need-overflow-add-i invariant-loop decreases-loop
+add-i : tie.Need-overflow_add-i invariant-loop decreases-loop
 add-i c = omega (arith, place-low c.before.before.before.before.before)
 
-loop-less-2 : tie.Need-loop-smaller-2 invariant-loop decreases-loop
+loop-less-2 : tie.Need-loop-i-smaller invariant-loop decreases-loop
 loop-less-2 c =
     let inside = c.before.before.before.before.before in
     let start = begun inside in
     Serving.left-next start.pre.1.0 (rows_in start.pre.0.net) inside.before.loop.invariant.2.between inside.loop-test.true
 
-loop-again-2 : tie.Need-loop-preserved-2 invariant-loop decreases-loop
+loop-again-2 : tie.Need-loop-i-preserved invariant-loop decreases-loop
 loop-again-2 c =
     let inside = c.before.before.before.before.before in
     let inv = inside.before.loop.invariant in
-    let done = served (root-near inside) (root_in inside) inv.2.between c.before.is-unserved.ensures c.if1.false in
+    let done = served (root-near inside) (root_in inside) inv.2.between c.is_unserved.ensures c.if-is_unserved.false in
     (inv.0, inv.1, Serving.one_more inv.2 done, inv.3)
 
-same-length-3 : tie.Need-same-length-3 invariant-loop decreases-loop
-same-length-3 c = c.before.loop.invariant.0
+same-length-3 : tie.Need-shape_of-chosen invariant-loop decreases-loop
+same-length-3 c = c.loop-i.invariant.0
 
-same-length-4 : tie.Need-same-length-4 invariant-loop decreases-loop
-same-length-4 c = c.before.loop.invariant.1
+same-length-4 : tie.Need-shape_of-list invariant-loop decreases-loop
+same-length-4 c = c.loop-i.invariant.1
 
-returns-2 : tie.Need-returns-2 invariant-loop decreases-loop
+returns-2 : tie.Need-returns invariant-loop decreases-loop
 returns-2 c =
     let start = c.before.before.before.before.before in
-    let all = Serving.all-served (rows_in start.requires.0.net) start.requires.1.0 (omega (arith, c.loop-test.false)) c.before.loop.invariant.2 in
+    let all = Serving.all-served (rows_in start.requires.0.net) start.requires.1.0 (omega (arith, c.loop-i-test.false)) c.loop-i.invariant.2 in
     record { served = λ e. all; none = λ e. absurd (true≢false e) }
 
-pub serve-rows-spec : {M : Type 1} → statement M
-serve-rows-spec =
+pub serve_rows_spec : {M : Type 1} → statement M
+serve_rows_spec =
     tie.close
     (tie.spec
     invariant-loop

@@ -13,28 +13,28 @@ use borrow.Author.Rules.{rules}
 use Rattle.sets.proofs.bound_inside.Statement.{statement}
 use Rattle.sets.proofs.bound_inside.Tie as tie
 
-returns : tie.Need-returns
+returns : tie.Need-returns-then-is_inside
 returns c =
-    let if1 = c.before.before.if1 in
+    let if1 = c.if-is_inside in
     let at-is-inside = c.before.before.before in
     let start = at-is-inside.before.before in
     let a = start.args in
     let p = start.requires.1 in
     let z = get_or a.bound.now a.v (pos 0) in
-    let e : c.natural.result ≡ up z = c.natural.ensures.1 ∙ ap up (back w32 z c.before.natural-arg.given) in
+    let e : c.natural.result ≡ up z = c.natural.ensures.1 ∙ ap up (back w32 z c.natural-arg-1.given) in
     let l : up z ≤ 64 = omega (order, p.1, ap dn (nonneg p.0)) in
-    (kept_times (is_inside a.insides.now a.k a.v) (sym at-is-inside.is-inside.ensures ∙ if1.true) e, omega arith)
+    (kept_times (is_inside a.insides.now a.k a.v) (sym at-is-inside.is_inside.ensures ∙ if1.true) e, omega arith)
 
-returns-2 : tie.Need-returns-2
+returns-2 : tie.Need-returns-else-is_inside
 returns-2 c =
-    let a = c.before.before.before.args in (
+    let a = c.args in (
       dropped_times (is_inside a.insides.now a.k a.v) (up (get_or a.bound.now a.v (pos 0)))
-          (sym c.before.is-inside.ensures ∙ c.if1.false),
+          (sym c.is_inside.ensures ∙ c.if-is_inside.false),
       omega arith,
     )
 
-pub bound-inside-spec : {M : Type 1} → statement M
-bound-inside-spec =
+pub bound_inside_spec : {M : Type 1} → statement M
+bound_inside_spec =
     tie.close
     (tie.spec
     (λ c κs. search rules)

@@ -8,14 +8,14 @@ use Rattle.sets.proofs.ends_inside.Tie as tie
 
 returns : tie.Need-returns
 returns c =
-    let is-inside2 = c.before.before.is-inside2 in
-    let is-inside = c.before.before.before.is-inside in
+    let is-inside2 = c.is_inside-second in
+    let is-inside = c.is_inside-first in
     ap₂ ◌+◌
-    (c.before.as_number.ensures.0 ∙ ap one is-inside.ensures)
-    (c.as-number2.ensures.0 ∙ ap one is-inside2.ensures)
+    (c.as_number.ensures.0 ∙ ap one is-inside.ensures)
+    (c.as_number-2.ensures.0 ∙ ap one is-inside2.ensures)
 
-pub ends-inside-spec : {M : Type 1} → statement M
-ends-inside-spec =
+pub ends_inside_spec : {M : Type 1} → statement M
+ends_inside_spec =
     tie.close
     (tie.spec
     (λ c κs. search rules)

@@ -16,17 +16,22 @@ keeps c =
     keeps_rules_by (graph_of c.args.s c.args.row.now c.args.column.now [])
     (odd_sets_of c.args.insides.now c.args.markings.now) c.args.k (get_or c.args.t4 c.args.k 0)
 
-returns : tie.Need-returns
+returns : tie.Need-returns-then-k-lt-MOST_SETS
 returns c =
     let start = c.before.before.before.before.before.before in
-    c.keeps-rules.ensures ∙ sym (ap (λ b. b && keeps start) (lt-ltb start.args.k 16 c.before.if1.true))
+    c.keeps_rules.ensures ∙ sym (ap (λ b. b && keeps start) (lt-ltb start.args.k 16 c.if-k-lt-MOST_SETS.true))
 
-returns-2 : tie.Need-returns-2
+returns-2 : tie.Need-returns-else-k-lt-MOST_SETS
 returns-2 c =
     let start = c.before.before.before.before.before in
-    sym (ap (λ b. b && keeps start) (le-ltb start.args.k 16 c.if1.false))
+    sym (ap (λ b. b && keeps start) (le-ltb start.args.k 16 c.if-k-lt-MOST_SETS.false))
 
-pub is-allowed-spec : {M : Type 1} → statement M
-is-allowed-spec =
+pub is_allowed_spec : {M : Type 1} → statement M
+is_allowed_spec =
     tie.close
-    (tie.spec (λ c. search rules) (λ c. search rules) (λ c κs. search rules) returns returns-2)
+    (tie.spec
+    (λ c. search rules)
+    (λ c. search rules)
+    (λ c κs. search rules)
+    returns
+    returns-2)

@@ -9,9 +9,12 @@ use Rattle.sets.proofs.is_inside.Tie as tie
 
 returns : tie.Need-returns
 returns c =
-    let a = c.before.before.args in
+    let a = c.args in
     let e : 64 * (2 * a.k) + a.v ≡ 128 * a.k + a.v = omega arith in
     c.bit_at.ensures ∙ ap (bit a.insides.now) e
 
-pub is-inside-spec : {M : Type 1} → statement M
-is-inside-spec = tie.close (tie.spec (λ c. search rules) (λ c κs. search rules) returns)
+pub is_inside_spec : {M : Type 1} → statement M
+is_inside_spec = tie.close (tie.spec
+    (λ c. search rules)
+    (λ c κs. search rules)
+    returns)

@@ -9,9 +9,12 @@ use Rattle.sets.proofs.is_marked.Tie as tie
 
 returns : tie.Need-returns
 returns c =
-    let a = c.before.before.args in
+    let a = c.args in
     let e : 64 * (16 * a.k) + a.e ≡ 1024 * a.k + a.e = omega arith in
     c.bit_at.ensures ∙ ap (bit a.markings.now) e
 
-pub is-marked-spec : {M : Type 1} → statement M
-is-marked-spec = tie.close (tie.spec (λ c. search rules) (λ c κs. search rules) returns)
+pub is_marked_spec : {M : Type 1} → statement M
+is_marked_spec = tie.close (tie.spec
+    (λ c. search rules)
+    (λ c κs. search rules)
+    returns)

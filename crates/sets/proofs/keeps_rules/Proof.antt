@@ -3,7 +3,7 @@ use mathlib.Core.List.{[]}
 use mathlib.Core.Path.{sym, ◌∙◌}
 use Rattle.graph.specs.Graph.{Graph, graph_of}
 use Rattle.dual.specs.Sets.{OddSets, odd_sets_of}
-use borrow.Author.Tests.{not_true, not-false}
+use borrow.Author.Tests.{not-true, not-false}
 use Rattle.sets.proofs.Marks.{above_breaks, vertex_breaks, ends_decide}
 use borrow.Author.Rules.{rules}
 use Rattle.sets.proofs.keeps_rules.Statement.{statement}
@@ -15,34 +15,34 @@ g c = graph_of c.args.s c.args.row.now c.args.column.now []
 abbrev O : tie.Start → OddSets
 O c = odd_sets_of c.args.insides.now c.args.markings.now
 
-returns : tie.Need-returns
+returns : tie.Need-returns-then-not-nothing_above
 returns c =
     let s = c.before.before.before.before.before.before in
-    let a = c.before.nothing_above in
-    above_breaks (g s) (O s) s.args.k s.args.load (sym a.ensures ∙ not_true a.result c.if1.true)
+    let a = c.nothing_above in
+    above_breaks (g s) (O s) s.args.k s.args.load (sym a.ensures ∙ not-true a.result c.if-not-nothing_above.true)
 
-returns-2 : tie.Need-returns-2
+returns-2 : tie.Need-returns-then-not-has_vertex
 returns-2 c =
-    let if1 = c.before.before.if1 in
+    let if1 = c.if-not-nothing_above in
     let s = c.before.before.before.before.before.before.before.before in
-    let a = c.before.before.before.nothing_above in
-    let v = c.before.has-vertex in
+    let a = c.nothing_above in
+    let v = c.has_vertex in
     vertex_breaks (g s) (O s) s.args.k s.args.load (sym a.ensures ∙ not-false a.result if1.false)
-    (sym v.ensures ∙ not_true v.result c.if2.true)
+    (sym v.ensures ∙ not-true v.result c.if-not-has_vertex.true)
 
-returns-3 : tie.Need-returns-3
+returns-3 : tie.Need-returns
 returns-3 c =
-    let if2 = c.before.before.if2 in
+    let if2 = c.if-not-has_vertex in
     let at-if1 = c.before.before.before.before in
     let s = at-if1.before.before.before.before.before.before in
-    let a = at-if1.before.nothing_above in
-    let v = c.before.before.before.has-vertex in
+    let a = at-if1.nothing_above in
+    let v = c.has_vertex in
     c.both.ensures
-    ∙ ends_decide (g s) (O s) s.args.k s.args.load (sym a.ensures ∙ not-false a.result at-if1.if1.false)
-    (sym v.ensures ∙ not-false v.result if2.false) (sym c.before.one-end-inside.ensures)
+    ∙ ends_decide (g s) (O s) s.args.k s.args.load (sym a.ensures ∙ not-false a.result at-if1.if-not-nothing_above.false)
+    (sym v.ensures ∙ not-false v.result if2.false) (sym c.one_end_inside-one_end.ensures)
 
-pub keeps-rules-spec : {M : Type 1} → statement M
-keeps-rules-spec =
+pub keeps_rules_spec : {M : Type 1} → statement M
+keeps_rules_spec =
     tie.close
     (tie.spec
     (λ c κs. search rules)

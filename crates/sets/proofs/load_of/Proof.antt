@@ -10,13 +10,19 @@ use Rattle.sets.proofs.load_of.Tie as tie
 
 returns : tie.Need-returns
 returns c =
-    let a = c.before.before.before.before.before.args in
-    let p = c.before.before.before.before.before.requires.0 in
-    let v = c.before.before.bounds-inside.ensures in
+    let a = c.args in
+    let p = c.requires.0 in
+    let v = c.bounds_inside.ensures in
     let m = c.ones.ensures in
     let e : 64 * (16 * a.k) ≡ 1024 * a.k = omega arith in
     (ap₂ ◌+◌ v.0 (m.0 ∙ ap (λ i. sum a.s.edges (λ j. one (bit a.markings.now (i + j)))) e), omega (arith, v.1, m.1, p.2))
 
-pub load-of-spec : {M : Type 1} → statement M
-load-of-spec =
-    tie.close (tie.spec (λ c κs. search rules) (λ c. search rules) (λ c. search rules) (λ c κs. search rules) (λ c. search rules) returns)
+pub load_of_spec : {M : Type 1} → statement M
+load_of_spec =
+    tie.close (tie.spec
+    (λ c κs. search rules)
+    (λ c. search rules)
+    (λ c. search rules)
+    (λ c κs. search rules)
+    (λ c. search rules)
+    returns)

@@ -13,41 +13,41 @@ use native.Mathlib.Omega.{arith}
 use Rattle.sets.proofs.lowest_set.Statement.{statement}
 use Rattle.sets.proofs.lowest_set.Tie as tie
 
-abbrev invariant-loop : tie.invariant-loop
+abbrev invariant-loop : tie.invariant-loop-k
 invariant-loop s row column load sets insides markings count k₀ k =
     KeptBelow (min sets 17) (λ j. ltb j 16 && keeps_rules_by (graph_of s row column []) (odd_sets_of insides markings) j (get_or load j 0)) k
 
-abbrev decreases-loop : tie.decreases-loop
+abbrev decreases-loop : tie.decreases-loop-k
 decreases-loop s row column load sets insides markings count k₀ k = count - k
 
-loop-holds : tie.Need-loop-init invariant-loop decreases-loop
+loop-holds : tie.Need-loop-k-init invariant-loop decreases-loop
 loop-holds c = kept_none
 
-is-allowed-requires : tie.Need-is-allowed-requires invariant-loop decreases-loop
+is-allowed-requires : tie.Need-is_allowed-requires invariant-loop decreases-loop
 is-allowed-requires c κs =
-    let p = c.before.before.before.before.before.before.before.requires in
-    let n = c.before.before.at-most-sets.ensures in
+    let p = c.requires in
+    let n = c.at_most_sets-count.ensures in
     (p.0, (omega (arith, p.1.0, n), omega (arith, p.1.1, n)))
 
-loop-again : tie.Need-loop-preserved invariant-loop decreases-loop
+loop-again : tie.Need-loop-k-preserved invariant-loop decreases-loop
 loop-again c =
     let at-loop = c.before.before.before in
-    let up_to_lem = at-loop.before.at-most-sets in
-    kept_more at-loop.loop.invariant (omega (arith, up_to_lem.ensures)) (sym c.before.is-allowed.ensures ∙ c.if1.true)
+    let up_to_lem = at-loop.at_most_sets-count in
+    kept_more at-loop.loop-k.invariant (omega (arith, up_to_lem.ensures)) (sym c.is_allowed.ensures ∙ c.if-is_allowed.true)
 
-returns : tie.Need-returns invariant-loop decreases-loop
+returns : tie.Need-returns-else-is_allowed invariant-loop decreases-loop
 returns c =
     let at-loop = c.before.before.before in
-    let up_to_lem = at-loop.before.at-most-sets in
-    kept_broken at-loop.loop.invariant (omega (arith, up_to_lem.ensures)) (sym c.before.is-allowed.ensures ∙ c.if1.false)
+    let up_to_lem = at-loop.at_most_sets-count in
+    kept_broken at-loop.loop-k.invariant (omega (arith, up_to_lem.ensures)) (sym c.is_allowed.ensures ∙ c.if-is_allowed.false)
 
-returns-2 : tie.Need-returns-2 invariant-loop decreases-loop
+returns-2 : tie.Need-returns invariant-loop decreases-loop
 returns-2 c =
-    let up_to_lem = c.before.before.at-most-sets in
-    kept_all c.before.loop.invariant (omega (arith, up_to_lem.ensures))
+    let up_to_lem = c.at_most_sets-count in
+    kept_all c.loop-k.invariant (omega (arith, up_to_lem.ensures))
 
-pub lowest-set-spec : {M : Type 1} → statement M
-lowest-set-spec =
+pub lowest_set_spec : {M : Type 1} → statement M
+lowest_set_spec =
     tie.close
     (tie.spec
     invariant-loop

@@ -9,21 +9,26 @@ use borrow.Author.Rules.{rules}
 use Rattle.sets.proofs.mark_covered.Statement.{statement}
 use Rattle.sets.proofs.mark_covered.Tie as tie
 
-returns : tie.Need-returns
+returns : tie.Need-returns-then-mark-eq0
 returns c =
-    let a = c.before.before.before.args in
+    let a = c.args in
     let n = one (covers_by a.insides.now a.markings.now a.k a.e a.ends.first a.ends.second) in
-    (sym (ap (λ m. m * n) c.if1.true ∙ zero-mul n), omega arith)
+    (sym (ap (λ m. m * n) c.if-mark-eq0.true ∙ zero-mul n), omega arith)
 
-returns-2 : tie.Need-returns-2
+returns-2 : tie.Need-returns
 returns-2 c =
-    let if1 = c.before.before.if1 in
+    let if1 = c.if-mark-eq0 in
     let start = c.before.before.before.before.before in
     let a = start.args in
     let n = one (covers_by a.insides.now a.markings.now a.k a.e a.ends.first a.ends.second) in
     let e : a.mark ≡ 1 = omega (arith, start.requires.0.3, if1.false) in
-    (c.as_number.ensures.0 ∙ ap one c.before.covers-edge.ensures ∙ sym (ap (λ m. m * n) e ∙ one-mul n), c.as_number.ensures.1)
+    (c.as_number.ensures.0 ∙ ap one c.covers_edge.ensures ∙ sym (ap (λ m. m * n) e ∙ one-mul n), c.as_number.ensures.1)
 
-pub mark-covered-spec : {M : Type 1} → statement M
-mark-covered-spec =
-    tie.close (tie.spec returns (λ c κs. search rules) (λ c κs. search rules) (λ c. search rules) returns-2)
+pub mark_covered_spec : {M : Type 1} → statement M
+mark_covered_spec =
+    tie.close (tie.spec
+    returns
+    (λ c κs. search rules)
+    (λ c κs. search rules)
+    (λ c. search rules)
+    returns-2)

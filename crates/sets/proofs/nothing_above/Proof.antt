@@ -13,22 +13,22 @@ g c = graph_of c.args.s [] [] []
 abbrev O : tie.Start → OddSets
 O c = odd_sets_of c.args.insides.now c.args.markings.now
 
-returns : tie.Need-returns
+returns : tie.Need-returns-then-any_from
 returns c =
-    let vertex-count = c.before.before.vertex-count in
+    let vertex-count = c.vertex_count-n in
     let a = c.before.before.before.before.before in
-    vertex_above (g a) (O a) a.args.k vertex-count.ensures c.before.any-from.ensures c.if1.true
+    vertex_above (g a) (O a) a.args.k vertex-count.ensures c.any_from.ensures c.if-any_from.true
 
-returns-2 : tie.Need-returns-2
+returns-2 : tie.Need-returns
 returns-2 c =
-    let if1 = c.before.before.if1 in
+    let if1 = c.if-any_from in
     let at-any-from = c.before.before.before in
     let at-vertex-count = at-any-from.before in
     let a = at-vertex-count.before.before.before in
-    edges-decide (g a) (O a) a.args.k at-vertex-count.vertex-count.ensures at-any-from.any-from.ensures if1.false c.any-from2.ensures
+    edges-decide (g a) (O a) a.args.k at-vertex-count.vertex_count-n.ensures at-any-from.any_from.ensures if1.false c.any_from-2.ensures
 
-pub nothing-above-spec : {M : Type 1} → statement M
-nothing-above-spec =
+pub nothing_above_spec : {M : Type 1} → statement M
+nothing_above_spec =
     tie.close
     (tie.spec
     (λ c κs. search rules)

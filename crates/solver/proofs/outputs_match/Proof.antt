@@ -18,14 +18,14 @@ returns c =
     let at_both = at-both2.before.before in
     let at-index-numbers = at_both.before.before in
     let at-vertex-count = at-index-numbers.before.before in
-    let a = at-vertex-count.before.args in
-    let marks = at_both.both.ensures ∙ ap (λ i. eqb a.index i && eqb a.outputs.chosen a.s.edges) at-index-numbers.index-numbers.ensures in
-    let vertices = at-both2.both2.ensures ∙ ap (λ k. at_both.both.result && eqb a.outputs.vertex k) at-vertex-count.vertex-count.ensures in
-    one_more (eqb a.outputs.workspace workspaceNumbers) c.both4.ensures
-    (one_more (eqb a.outputs.edge a.s.edges) c.before.before.both3.ensures (one_more (eqb a.outputs.vertex (verticesIn a.s)) vertices marks))
+    let a = at-vertex-count.args in
+    let marks = at_both.both-marks.ensures ∙ ap (λ i. eqb a.index i && eqb a.outputs.chosen a.s.edges) at-index-numbers.index_numbers.ensures in
+    let vertices = at-both2.both.ensures ∙ ap (λ k. at_both.both-marks.result && eqb a.outputs.vertex k) at-vertex-count.vertex_count-n.ensures in
+    one_more (eqb a.outputs.workspace workspaceNumbers) c.both-2.ensures
+    (one_more (eqb a.outputs.edge a.s.edges) c.both-prices.ensures (one_more (eqb a.outputs.vertex (verticesIn a.s)) vertices marks))
 
-pub outputs-match-spec : {M : Type 1} → statement M
-outputs-match-spec =
+pub outputs_match_spec : {M : Type 1} → statement M
+outputs_match_spec =
     tie.close
     (tie.spec
     (λ c κs. search rules)

@@ -21,27 +21,27 @@ graph c = graph_of c.args.s c.args.row.now c.args.column.now c.args.weight.now
 abbrev lent : tie.Start → Lent
 lent c = let a = c.args in lent_of (length a.chosen.now) (length a.vertex-price.now) (length a.edge-price.now) (length a.workspace.now)
 
-returns : tie.Need-returns
+returns : tie.Need-returns-in-Refused
 returns c =
-    let at-clear-integers3 = c.before.before.before.before in
+    let at-clear-integers3 = c.before.before in
     let at-clear-integers2 = at-clear-integers3.before.before.before in
     let at-clear-integers = at-clear-integers2.before.before.before in
     let at-clear-bytes = at-clear-integers.before.before.before.before in
     let at-tested = at-clear-bytes.before.before in
     let start = at-tested.before.before.before.before.before in
-    let says = sym (ap check_says c.before.check.given.1) ∙ at-tested.tested.ensures in (
+    let says = sym (ap check_says c.in-Refused.is) ∙ at-tested.tested-check.ensures in (
       ap told says,
       left-zero start.args.index.now (lent start) says (record {
-        marks = at-clear-bytes.clear-bytes.ensures;
-        vertices = at-clear-integers.clear-integers.ensures;
-        edges = at-clear-integers2.clear-integers2.ensures;
-      }) at-clear-integers3.clear-integers3.ensures,
+        marks = at-clear-bytes.clear_bytes.ensures;
+        vertices = at-clear-integers.clear_integers.ensures;
+        edges = at-clear-integers2.clear_integers-2.ensures;
+      }) at-clear-integers3.clear_integers-3.ensures,
     )
 
 optimise-requires : tie.Need-optimise-requires
 optimise-requires c κs =
     let at-enum-told = c.before.before.before.before in
-    let at-clear-integers3 = at-enum-told.before.before.before in
+    let at-clear-integers3 = at-enum-told.before.before in
     let at-clear-integers2 = at-clear-integers3.before.before.before in
     let at-clear-integers = at-clear-integers2.before.before.before in
     let at-clear-bytes = at-clear-integers.before.before.before.before in
@@ -49,7 +49,7 @@ optimise-requires c κs =
     let start = at-tested.before.before.before.before.before in
     let g = graph start in
     let index = start.args.index.now in
-    let P = solve-passed g start.args.bound.now index (lent start) (sym at-tested.tested.ensures ∙ ap check_says at-enum-told.enum_told.given.1) in (
+    let P = solve-passed g start.args.bound.now index (lent start) (sym at-tested.tested-check.ensures ∙ ap check_says at-enum-told.in_default.is) in (
       record { bipartite = P.bipartite; passed = P.passed },
       (
         index_given g index P.passed.sound P.index_long P.index_passes,
@@ -57,41 +57,41 @@ optimise-requires c κs =
           P.bounded,
           (
             (
-              at-clear-integers.clear-integers.auto.0 ∙ P.vertex_long,
-              at-clear-integers2.clear-integers2.auto.0 ∙ P.edge_long,
-              omega (arith, at-clear-integers3.clear-integers3.auto.0, P.workspace_long, P.passed.sound.sizes.few),
+              at-clear-integers.clear_integers.auto.0 ∙ P.vertex_long,
+              at-clear-integers2.clear_integers-2.auto.0 ∙ P.edge_long,
+              omega (arith, at-clear-integers3.clear_integers-3.auto.0, P.workspace_long, P.passed.sound.sizes.few),
             ),
-            at-clear-bytes.clear-bytes.ensures ∙ ap (λ n. replicate n 0) P.chosen_long,
+            at-clear-bytes.clear_bytes.ensures ∙ ap (λ n. replicate n 0) P.chosen_long,
           ),
         ),
       ),
     )
 
-returns-2 : tie.Need-returns-2
+returns-2 : tie.Need-returns
 returns-2 c =
     let at-clear-integers4 = c.before in
     let at-optimise = at-clear-integers4.before.before.before.before.before.before.before in
     let at-enum-told = at-optimise.before.before.before.before.before in
-    let at-clear-integers3 = at-enum-told.before.before.before in
+    let at-clear-integers3 = at-enum-told.before.before in
     let at-clear-integers2 = at-clear-integers3.before.before.before in
     let at-clear-integers = at-clear-integers2.before.before.before in
     let at-clear-bytes = at-clear-integers.before.before.before.before in
     let at-tested = at-clear-bytes.before.before in
     let start = at-tested.before.before.before.before.before in
-    let says = sym at-tested.tested.ensures ∙ ap check_says at-enum-told.enum_told.given.1 in
+    let says = sym at-tested.tested-check.ensures ∙ ap check_says at-enum-told.in_default.is in
     let optimise = at-optimise.optimise in
     let kept = optimise.auto.1.1.1.1.1.1 in
-    let workspace = kept.1.1.1.0 ∙ at-clear-integers3.clear-integers3.auto.0 in (
+    let workspace = kept.1.1.1.0 ∙ at-clear-integers3.clear_integers-3.auto.0 in (
       ap told (sym says),
       left-solved start.args.index.now (lent start) says optimise.ensures
-          (kept.0 ∙ at-clear-bytes.clear-bytes.auto.0)
-          (kept.1.0 ∙ at-clear-integers.clear-integers.auto.0)
-          (kept.1.1.0 ∙ at-clear-integers2.clear-integers2.auto.0)
-          (at-clear-integers4.clear-integers4.ensures ∙ ap (λ n. replicate n (pos 0)) workspace),
+          (kept.0 ∙ at-clear-bytes.clear_bytes.auto.0)
+          (kept.1.0 ∙ at-clear-integers.clear_integers.auto.0)
+          (kept.1.1.0 ∙ at-clear-integers2.clear_integers-2.auto.0)
+          (at-clear-integers4.clear_integers-4.ensures ∙ ap (λ n. replicate n (pos 0)) workspace),
     )
 
-pub solve-spec : {M : Type 1} → statement M
-solve-spec =
+pub solve_spec : {M : Type 1} → statement M
+solve_spec =
     tie.close
     (tie.spec
     (λ c κs. search rules)

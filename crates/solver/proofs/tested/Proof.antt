@@ -13,35 +13,35 @@ graph c = graph_of c.args.s c.args.row.now c.args.column.now c.args.weight.now
 abbrev lent : tie.Start → Lent
 lent c = let l = c.args.outputs in lent_of l.chosen l.vertex l.edge l.workspace
 
-abbrev begun : tie.After-outputs-match → tie.Start
+abbrev begun : tie.After-outputs_match-others → tie.Start
 begun c = c.before.before.before.before
 
-returns : tie.Need-returns
+returns : tie.Need-returns-in-Refused
 returns c =
-    let tests = c.before.before.before in
+    let tests = c.before in
     let m = tests.before in
     let s = begun m in
-    first_refused (graph s) s.args.bound.now s.args.index.now (lent s) m.outputs-match.ensures tests.check-bipartite.ensures
-    c.before.r.given.1
+    first_refused (graph s) s.args.bound.now s.args.index.now (lent s) m.outputs_match-others.ensures tests.check_bipartite.ensures
+    c.in-Refused.is
 
-check-places-requires : tie.Need-check-places-requires
+check-places-requires : tie.Need-check_places-last-requires
 check-places-requires c κs =
+    let tests = c.before in
+    let m = tests.before in
+    let s = begun m in
+    indexable (graph s) s.args.bound.now s.args.index.now (lent s) m.outputs_match-others.ensures tests.check_bipartite.ensures
+    c.in_default.is
+
+returns-2 : tie.Need-returns
+returns-2 c =
     let tests = c.before.before in
     let m = tests.before in
     let s = begun m in
-    indexable (graph s) s.args.bound.now s.args.index.now (lent s) m.outputs-match.ensures tests.check-bipartite.ensures
-    c.enum_told.given.1
+    index_last (graph s) s.args.bound.now s.args.index.now (lent s) m.outputs_match-others.ensures tests.check_bipartite.ensures
+    c.in_default.is c.check_places-last.ensures
 
-returns-2 : tie.Need-returns-2
-returns-2 c =
-    let tests = c.before.before.before in
-    let m = tests.before in
-    let s = begun m in
-    index_last (graph s) s.args.bound.now s.args.index.now (lent s) m.outputs-match.ensures tests.check-bipartite.ensures
-    c.before.enum_told.given.1 c.check-places.ensures
-
-pub tested-spec : {M : Type 1} → statement M
-tested-spec =
+pub tested_spec : {M : Type 1} → statement M
+tested_spec =
     tie.close
     (tie.spec
     (λ c κs. search rules)

@@ -4,50 +4,50 @@ use borrow.Author.Rules.{rules}
 use Rattle.sources.proofs.next_source.Statement.{statement}
 use Rattle.sources.proofs.next_source.Tie as tie
 
-returns : tie.Need-returns
+returns : tie.Need-returns-then-is_next
 returns c =
-    let at-node = c.before.before.before in
-    let at-entry-on = at-node.before.before in
-    let args = at-entry-on.before.before.args in
-    node_next args.line.now at-entry-on.entry-on.ensures args.arcs args.rows at-node.node.given.1 c.before.is-next.ensures
-    c.if1.true
+    let at-node = c.before.before in
+    let at-entry-on = at-node.before in
+    let args = at-entry-on.args in
+    node_next args.line.now at-entry-on.entry_on.ensures args.arcs args.rows at-node.in-Source.is c.is_next.ensures
+    c.if-is_next.true
 
-returns-2 : tie.Need-returns-2
+returns-2 : tie.Need-returns-then-arcs-gt0
 returns-2 c =
-    let at_source = c.before.before in
-    let at-entry-on = at_source.before.before in
-    let args = at-entry-on.before.before.args in
-    arc_first args.line.now at-entry-on.entry-on.ensures args.arcs args.rows at_source.source.given.1 c.if2.true
+    let at_source = c.before in
+    let at-entry-on = at_source.before in
+    let args = at-entry-on.args in
+    arc_first args.line.now at-entry-on.entry_on.ensures args.arcs args.rows at_source.in-Arc.is c.if-arcs-gt0.true
 
-returns-3 : tie.Need-returns-3
+returns-3 : tie.Need-returns-else-is_next
 returns-3 c =
-    let at-node = c.before.before.before in
-    let at-entry-on = at-node.before.before in
-    let args = at-entry-on.before.before.args in
-    node_other args.line.now at-entry-on.entry-on.ensures args.arcs args.rows at-node.node.given.1 c.before.is-next.ensures
-    c.if1.false
+    let at-node = c.before.before in
+    let at-entry-on = at-node.before in
+    let args = at-entry-on.args in
+    node_other args.line.now at-entry-on.entry_on.ensures args.arcs args.rows at-node.in-Source.is c.is_next.ensures
+    c.if-is_next.false
 
-returns-4 : tie.Need-returns-4
+returns-4 : tie.Need-returns-else-arcs-gt0
 returns-4 c =
-    let at_source = c.before.before in
-    let at-entry-on = at_source.before.before in
-    let args = at-entry-on.before.before.args in
-    arc_surplus args.line.now at-entry-on.entry-on.ensures args.arcs args.rows at_source.source.given.1 c.if2.false
+    let at_source = c.before in
+    let at-entry-on = at_source.before in
+    let args = at-entry-on.args in
+    arc_surplus args.line.now at-entry-on.entry_on.ensures args.arcs args.rows at_source.in-Arc.is c.if-arcs-gt0.false
 
-returns-5 : tie.Need-returns-5
+returns-5 : tie.Need-returns-in-Problem
 returns-5 c =
-    let at-entry-on = c.before.before.before in
-    let args = at-entry-on.before.before.args in
-    problem_twice args.line.now at-entry-on.entry-on.ensures args.arcs args.rows c.before.nodes.given.1
+    let at-entry-on = c.before in
+    let args = at-entry-on.args in
+    problem_twice args.line.now at-entry-on.entry_on.ensures args.arcs args.rows c.in-Problem.is
 
-returns-6 : tie.Need-returns-6
+returns-6 : tie.Need-returns-in-Bad
 returns-6 c =
-    let at-entry-on = c.before.before in
-    let args = at-entry-on.before.before.args in
-    line_bad args.line.now at-entry-on.entry-on.ensures args.arcs args.rows c.enum_told.given.1
+    let at-entry-on = c.before in
+    let args = at-entry-on.args in
+    line_bad args.line.now at-entry-on.entry_on.ensures args.arcs args.rows c.in-Bad.is
 
-pub next-source-spec : {M : Type 1} → statement M
-next-source-spec =
+pub next_source_spec : {M : Type 1} → statement M
+next_source_spec =
     tie.close
     (tie.spec
     (λ c κs. search rules)

@@ -5,11 +5,16 @@ use borrow.Author.Rules.{rules}
 use Rattle.spelling.proofs.above_zero.Statement.{statement}
 use Rattle.spelling.proofs.above_zero.Tie as tie
 
-returns : tie.Need-returns
-returns c = above_says _ _ c.before.before.n.given.1 (omega arith)
+returns : tie.Need-returns-then-value-gt0
+returns c = above_says _ _ c.in-Is.is (omega arith)
 
-returns-2 : tie.Need-returns-2
-returns-2 c = zero_says _ _ c.before.before.n.given.1 (omega arith)
+returns-2 : tie.Need-returns-else-value-gt0
+returns-2 c = zero_says _ _ c.in-Is.is (omega arith)
 
-pub above-zero-spec : {M : Type 1} → statement M
-above-zero-spec = tie.close (tie.spec (λ c. search rules) (λ c. search rules) returns returns-2 (λ c. search rules))
+pub above_zero_spec : {M : Type 1} → statement M
+above_zero_spec = tie.close (tie.spec
+    (λ c. search rules)
+    (λ c. search rules)
+    returns
+    returns-2
+    (λ c. search rules))

@@ -6,10 +6,14 @@ use Rattle.spelling.specs.Spelling.{natural_says}
 use Rattle.spelling.proofs.after_plus.Statement.{statement}
 use Rattle.spelling.proofs.after_plus.Tie as tie
 
-returns : tie.Need-returns
+returns : tie.Need-returns-in-New
 returns c =
-    let args = c.before.before.args in
-    ap (λ r. value_after_plus r (natural_says args.n)) (sym c.enum_told.given.1)
+    let args = c.args in
+    ap (λ r. value_after_plus r (natural_says args.n)) (sym c.in-New.is)
 
-pub after-plus-spec : {M : Type 1} → statement M
-after-plus-spec = tie.close (tie.spec (λ c. search rules) (λ c. search rules) returns (λ c. search rules))
+pub after_plus_spec : {M : Type 1} → statement M
+after_plus_spec = tie.close (tie.spec
+    (λ c. search rules)
+    (λ c. search rules)
+    returns
+    (λ c. search rules))

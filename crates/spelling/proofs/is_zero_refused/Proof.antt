@@ -4,11 +4,16 @@ use borrow.Author.Rules.{rules}
 use Rattle.spelling.proofs.is_zero_refused.Statement.{statement}
 use Rattle.spelling.proofs.is_zero_refused.Tie as tie
 
-returns : tie.Need-returns
-returns c = refused_new c.before.before.before.before.args.w.now c.before.enum_told.given.1 c.is-padded.ensures
+returns : tie.Need-returns-in-New
+returns c = refused_new c.args.w.now c.in-New.is c.is_padded.ensures
 
-returns-2 : tie.Need-returns-2
-returns-2 c = refused_old c.before.before.before.args.w.now c.enum-told2.given.1
+returns-2 : tie.Need-returns-in-Old
+returns-2 c = refused_old c.args.w.now c.in-Old.is
 
-pub is-zero-refused-spec : {M : Type 1} → statement M
-is-zero-refused-spec = tie.close (tie.spec (λ c. search rules) (λ c κs. search rules) (λ c. search rules) returns returns-2)
+pub is_zero_refused_spec : {M : Type 1} → statement M
+is_zero_refused_spec = tie.close (tie.spec
+    (λ c. search rules)
+    (λ c κs. search rules)
+    (λ c. search rules)
+    returns
+    returns-2)

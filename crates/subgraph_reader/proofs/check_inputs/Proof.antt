@@ -6,23 +6,23 @@ use borrow.Author.Rules.{rules}
 use Rattle.subgraph_reader.proofs.check_inputs.Statement.{statement}
 use Rattle.subgraph_reader.proofs.check_inputs.Tie as tie
 
-returns : tie.Need-returns
+returns : tie.Need-returns-in-Refused
 returns c =
-    let at-check-lent = c.before.before.before in
-    let args = at-check-lent.before.before.before.before.before.args in
+    let at-check-lent = c.before in
+    let args = at-check-lent.args in
     numbers_refused (graph_of args.s args.row.now args.column.now args.weight.now) args.n args.text.now
-    at-check-lent.check-lent.ensures c.before.r.given.1
+    at-check-lent.check_lent.ensures c.in-Refused.is
 
-returns-2 : tie.Need-returns-2
+returns-2 : tie.Need-returns-in-Passed
 returns-2 c =
-    let at-check-lent = c.before.before.before in
-    let args = at-check-lent.before.before.before.before.before.args in
-    c.check-text.ensures
+    let at-check-lent = c.before.before in
+    let args = at-check-lent.args in
+    c.check_text.ensures
     ∙ text_left (graph_of args.s args.row.now args.column.now args.weight.now) args.n args.text.now
-    at-check-lent.check-lent.ensures c.before.enum_told.given.1
+    at-check-lent.check_lent.ensures c.in-Passed.is
 
-pub check-inputs-spec : {M : Type 1} → statement M
-check-inputs-spec =
+pub check_inputs_spec : {M : Type 1} → statement M
+check_inputs_spec =
     tie.close
     (tie.spec
     (λ c. search rules)

@@ -9,104 +9,104 @@ use Rattle.subgraph_reader.proofs.OnLine.{cell_flagged, edge_bad, ends_wrong, ed
 use Rattle.subgraph_reader.proofs.edge_on.Statement.{statement}
 use Rattle.subgraph_reader.proofs.edge_on.Tie as tie
 
-two-naturals-in-requires : tie.Need-two-naturals-in-requires
-two-naturals-in-requires c κs = c.before.before.before.requires.0
+two-naturals-in-requires : tie.Need-two_naturals_in-requires
+two-naturals-in-requires c κs = c.requires.0
 
-returns : tie.Need-returns
+returns : tie.Need-returns-in_default
 returns c =
-    let at-two-naturals-in = c.before.before in
+    let at-two-naturals-in = c.before in
     let start = at-two-naturals-in.before.before.before.before in
-    let two = at-two-naturals-in.two-naturals-in.ensures in
+    let two = at-two-naturals-in.two_naturals_in.ensures in
     let marks = start.args.chosen.now in
-    (λ t k i. edge_bad t (so_far k i marks) two c.enum_told.given.1, tt)
+    (λ t k i. edge_bad t (so_far k i marks) two c.in_default.is, tt)
 
-find-edge-requires : tie.Need-find-edge-requires
+find-edge-requires : tie.Need-find_edge-requires
 find-edge-requires c κs =
-    let start = c.before.before.before.before.before.before.before.before.before in
+    let start = c.before.before.before.before.before.before.before in
     let T = start.requires.1.0 in
-    (T.holds.long, cell_flagged T (sym c.before.ends-in-range.ensures ∙ c.if1.true))
+    (T.holds.long, cell_flagged T (sym c.ends_in_range.ensures ∙ c.if-ends_in_range.true))
 
-returns-2 : tie.Need-returns-2
+returns-2 : tie.Need-returns-in_default-find_edge
 returns-2 c =
-    let at-find-edge = c.before.before in
+    let at-find-edge = c.before in
     let at-if1 = at-find-edge.before in
     let at-ends-in-range = at-if1.before in
-    let at-r = at-ends-in-range.before.before in
-    let at-two-naturals-in = at-r.before.before in
+    let at-r = at-ends-in-range.before in
+    let at-two-naturals-in = at-r.before in
     let start = at-two-naturals-in.before.before.before.before in
-    let two = at-two-naturals-in.two-naturals-in.ensures in
-    let is = at-r.r.given.1 in
-    let inside = sym at-ends-in-range.ends-in-range.ensures ∙ at-if1.if1.true in
+    let two = at-two-naturals-in.two_naturals_in.ensures in
+    let is = at-r.in-Is.is in
+    let inside = sym at-ends-in-range.ends_in_range.ensures ∙ at-if1.if-ends_in_range.true in
     let marks = start.args.chosen.now in
-    (λ t k i. edge_absent t (so_far k i marks) two is inside at-find-edge.find-edge.ensures c.enum-told2.given.1, tt)
+    (λ t k i. edge_absent t (so_far k i marks) two is inside at-find-edge.find_edge.ensures c.in_default-find_edge.is, tt)
 
-shared-slice-read-if2 : tie.Need-shared-slice-read-if2
+shared-slice-read-if2 : tie.Need-bounds-chosen-e
 shared-slice-read-if2 c =
-    let at-e = c.before.before in
-    let at-find-edge = at-e.before.before in
+    let at-e = c.before in
+    let at-find-edge = at-e.before in
     let at-if1 = at-find-edge.before in
     let at-ends-in-range = at-if1.before in
-    let at-r = at-ends-in-range.before.before in
-    let at-two-naturals-in = at-r.before.before in
+    let at-r = at-ends-in-range.before in
+    let at-two-naturals-in = at-r.before in
     let start = at-two-naturals-in.before.before.before.before in
-    let two = at-two-naturals-in.two-naturals-in.ensures in
-    let is = at-r.r.given.1 in
-    let inside = sym at-ends-in-range.ends-in-range.ensures ∙ at-if1.if1.true in
+    let two = at-two-naturals-in.two_naturals_in.ensures in
+    let is = at-r.in-Is.is in
+    let inside = sym at-ends-in-range.ends_in_range.ensures ∙ at-if1.if-ends_in_range.true in
     let s = start in
     omega (
       arith,
-      edge-among s.requires.1.0 (so_far 0 0 s.args.chosen.now) two is inside at-find-edge.find-edge.ensures at-e.e.given.1,
+      edge-among s.requires.1.0 (so_far 0 0 s.args.chosen.now) two is inside at-find-edge.find_edge.ensures at-e.in-At.is,
       s.requires.1.1,
     )
 
-returns-3 : tie.Need-returns-3
+returns-3 : tie.Need-returns-then-chosen-e-eq0
 returns-3 c =
-    let at-e = c.before.before.before in
-    let at-find-edge = at-e.before.before in
+    let at-e = c.before.before in
+    let at-find-edge = at-e.before in
     let at-if1 = at-find-edge.before in
     let at-ends-in-range = at-if1.before in
-    let at-r = at-ends-in-range.before.before in
-    let at-two-naturals-in = at-r.before.before in
+    let at-r = at-ends-in-range.before in
+    let at-two-naturals-in = at-r.before in
     let start = at-two-naturals-in.before.before.before.before in
-    let two = at-two-naturals-in.two-naturals-in.ensures in
-    let is = at-r.r.given.1 in
-    let inside = sym at-ends-in-range.ends-in-range.ensures ∙ at-if1.if1.true in
-    let found = at-find-edge.find-edge.ensures in
-    let at = at-e.e.given.1 in
+    let two = at-two-naturals-in.two_naturals_in.ensures in
+    let is = at-r.in-Is.is in
+    let inside = sym at-ends-in-range.ends_in_range.ensures ∙ at-if1.if-ends_in_range.true in
+    let found = at-find-edge.find_edge.ensures in
+    let at = at-e.in-At.is in
     let s = start in (
-      λ t k i. edge_marks t (so_far k i s.args.chosen.now) two is inside found true at (eq-eqb _ _ c.if2.true),
+      λ t k i. edge_marks t (so_far k i s.args.chosen.now) two is inside found true at (eq-eqb _ _ c.if-chosen-e-eq0.true),
       edge-among s.requires.1.0 (so_far 0 0 s.args.chosen.now) two is inside found at,
     )
 
-returns-4 : tie.Need-returns-4
+returns-4 : tie.Need-returns-else-chosen-e-eq0
 returns-4 c =
-    let at-e = c.before.before.before in
-    let at-find-edge = at-e.before.before in
+    let at-e = c.before.before in
+    let at-find-edge = at-e.before in
     let at-if1 = at-find-edge.before in
     let at-ends-in-range = at-if1.before in
-    let at-r = at-ends-in-range.before.before in
-    let at-two-naturals-in = at-r.before.before in
+    let at-r = at-ends-in-range.before in
+    let at-two-naturals-in = at-r.before in
     let start = at-two-naturals-in.before.before.before.before in
-    let two = at-two-naturals-in.two-naturals-in.ensures in
-    let is = at-r.r.given.1 in
-    let inside = sym at-ends-in-range.ends-in-range.ensures ∙ at-if1.if1.true in
-    let found = at-find-edge.find-edge.ensures in
-    let at = at-e.e.given.1 in
+    let two = at-two-naturals-in.two_naturals_in.ensures in
+    let is = at-r.in-Is.is in
+    let inside = sym at-ends-in-range.ends_in_range.ensures ∙ at-if1.if-ends_in_range.true in
+    let found = at-find-edge.find_edge.ensures in
+    let at = at-e.in-At.is in
     let marks = start.args.chosen.now in
-    (λ t k i. edge_marks t (so_far k i marks) two is inside found false at (ne_eqb _ _ c.if2.false), tt)
+    (λ t k i. edge_marks t (so_far k i marks) two is inside found false at (ne_eqb _ _ c.if-chosen-e-eq0.false), tt)
 
-returns-5 : tie.Need-returns-5
+returns-5 : tie.Need-returns-else-ends_in_range
 returns-5 c =
-    let at-r = c.before.before.before in
-    let at-two-naturals-in = at-r.before.before in
+    let at-r = c.before.before in
+    let at-two-naturals-in = at-r.before in
     let start = at-two-naturals-in.before.before.before.before in
-    let two = at-two-naturals-in.two-naturals-in.ensures in
-    let is = at-r.r.given.1 in
+    let two = at-two-naturals-in.two_naturals_in.ensures in
+    let is = at-r.in-Is.is in
     let marks = start.args.chosen.now in
-    (λ t k i. ends_wrong t (so_far k i marks) two is (sym c.before.ends-in-range.ensures ∙ c.if1.false), tt)
+    (λ t k i. ends_wrong t (so_far k i marks) two is (sym c.ends_in_range.ensures ∙ c.if-ends_in_range.false), tt)
 
-pub edge-on-spec : {M : Type 1} → statement M
-edge-on-spec =
+pub edge_on_spec : {M : Type 1} → statement M
+edge_on_spec =
     tie.close
     (tie.spec
     two-naturals-in-requires

@@ -7,48 +7,48 @@ use borrow.Author.Rules.{rules}
 use Rattle.subgraph_reader.proofs.plan_size_on.Statement.{statement}
 use Rattle.subgraph_reader.proofs.plan_size_on.Tie as tie
 
-returns : tie.Need-returns
+returns : tie.Need-returns-in_default
 returns c =
-    let three-naturals = c.before.before.three-naturals in
-    let args = c.before.before.before.before.args in
-    size_bad (no_edges args.s) three-naturals.ensures c.enum_told.given.1
+    let three-naturals = c.three_naturals in
+    let args = c.args in
+    size_bad (no_edges args.s) three-naturals.ensures c.in_default.is
 
-returns-2 : tie.Need-returns-2
+returns-2 : tie.Need-returns-then-both
 returns-2 c =
     let at_both = c.before.before.before in
     let at-if1 = at_both.before.before.before in
     let at-sizes-in-range = at-if1.before in
-    let at_rows = at-sizes-in-range.before.before in
-    let at-three-naturals = at_rows.before.before in
-    let args = at-three-naturals.before.before.args in
-    size_does (no_edges args.s) at-three-naturals.three-naturals.ensures at_rows.rows.given.1 true true
-    (sym at-sizes-in-range.sizes-in-range.ensures ∙ at-if1.if1.true)
-    (size_agrees (no_edges args.s) at-three-naturals.three-naturals.ensures at_rows.rows.given.1 at_both.both.ensures
-    c.before.both2.ensures c.if2.true)
+    let at_rows = at-sizes-in-range.before in
+    let at-three-naturals = at_rows.before in
+    let args = at-three-naturals.args in
+    size_does (no_edges args.s) at-three-naturals.three_naturals.ensures at_rows.in-Is.is true true
+    (sym at-sizes-in-range.sizes_in_range.ensures ∙ at-if1.if-sizes_in_range.true)
+    (size_agrees (no_edges args.s) at-three-naturals.three_naturals.ensures at_rows.in-Is.is at_both.both-sides.ensures
+    c.both.ensures c.if-both.true)
 
-returns-3 : tie.Need-returns-3
+returns-3 : tie.Need-returns-else-both
 returns-3 c =
     let at_both = c.before.before.before in
     let at-if1 = at_both.before.before.before in
     let at-sizes-in-range = at-if1.before in
-    let at_rows = at-sizes-in-range.before.before in
-    let at-three-naturals = at_rows.before.before in
-    let args = at-three-naturals.before.before.args in
-    size_does (no_edges args.s) at-three-naturals.three-naturals.ensures at_rows.rows.given.1 true false
-    (sym at-sizes-in-range.sizes-in-range.ensures ∙ at-if1.if1.true)
-    (size_agrees (no_edges args.s) at-three-naturals.three-naturals.ensures at_rows.rows.given.1 at_both.both.ensures
-    c.before.both2.ensures c.if2.false)
+    let at_rows = at-sizes-in-range.before in
+    let at-three-naturals = at_rows.before in
+    let args = at-three-naturals.args in
+    size_does (no_edges args.s) at-three-naturals.three_naturals.ensures at_rows.in-Is.is true false
+    (sym at-sizes-in-range.sizes_in_range.ensures ∙ at-if1.if-sizes_in_range.true)
+    (size_agrees (no_edges args.s) at-three-naturals.three_naturals.ensures at_rows.in-Is.is at_both.both-sides.ensures
+    c.both.ensures c.if-both.false)
 
-returns-4 : tie.Need-returns-4
+returns-4 : tie.Need-returns-else-sizes_in_range
 returns-4 c =
-    let at_rows = c.before.before.before in
-    let at-three-naturals = at_rows.before.before in
-    let args = at-three-naturals.before.before.args in
-    size_does (no_edges args.s) at-three-naturals.three-naturals.ensures at_rows.rows.given.1 false _
-    (sym c.before.sizes-in-range.ensures ∙ c.if1.false) refl
+    let at_rows = c.before.before in
+    let at-three-naturals = at_rows.before in
+    let args = at-three-naturals.args in
+    size_does (no_edges args.s) at-three-naturals.three_naturals.ensures at_rows.in-Is.is false _
+    (sym c.sizes_in_range.ensures ∙ c.if-sizes_in_range.false) refl
 
-pub plan-size-on-spec : {M : Type 1} → statement M
-plan-size-on-spec =
+pub plan_size_on_spec : {M : Type 1} → statement M
+plan_size_on_spec =
     tie.close
     (tie.spec
     (λ c κs. search rules)

@@ -9,67 +9,67 @@ use borrow.Author.Rules.{rules}
 use Rattle.subgraph_reader.proofs.read_subgraph.Statement.{statement}
 use Rattle.subgraph_reader.proofs.read_subgraph.Tie as tie
 
-enum_told : tie.Need-enum-told
+enum_told : tie.Need-enum_told-1
 enum_told c = search rules
 
-read-subgraph-lines-requires : tie.Need-read-subgraph-lines-requires
+read-subgraph-lines-requires : tie.Need-read_subgraph_lines-requires
 read-subgraph-lines-requires c κs =
     let enum_told = c.before.enum_told in
-    let at-check-inputs = c.before.before.before in
+    let at-check-inputs = c.before.before in
     let at-clear-bytes = at-check-inputs.before.before.before in
-    let args = at-clear-bytes.before.before.before.before.before.before.args in
+    let args = at-clear-bytes.args in
     let P = passed (graph_of args.s args.row.now args.column.now args.weight.now) (length args.chosen.now) args.text.now
-    (ap length at-clear-bytes.clear-bytes.ensures ∙ length-replicate (length args.chosen.now) 0) _
-    at-check-inputs.check-inputs.ensures enum_told.given.1 in (
+    (ap length at-clear-bytes.clear_bytes.ensures ∙ length-replicate (length args.chosen.now) 0) _
+    at-check-inputs.check_inputs.ensures enum_told.given.1 in (
       (P.sound, distinct P),
-      at-clear-bytes.clear-bytes.ensures
+      at-clear-bytes.clear_bytes.ensures
           ∙ ap (λ (k : ℕ). replicate k 0)
           (size (graph_of args.s args.row.now args.column.now args.weight.now) (length args.chosen.now) args.text.now
-          (ap length at-clear-bytes.clear-bytes.ensures ∙ length-replicate (length args.chosen.now) 0) _
-          at-check-inputs.check-inputs.ensures enum_told.given.1),
+          (ap length at-clear-bytes.clear_bytes.ensures ∙ length-replicate (length args.chosen.now) 0) _
+          at-check-inputs.check_inputs.ensures enum_told.given.1),
     )
 
-returns : tie.Need-returns
+returns : tie.Need-returns-in-Refused
 returns c =
-    let at-check-inputs = c.before.before.before in
+    let at-check-inputs = c.before in
     let at-clear-bytes = at-check-inputs.before.before.before in
-    let args = at-clear-bytes.before.before.before.before.before.before.args in
+    let args = at-clear-bytes.args in
     whole_lent (graph_of args.s args.row.now args.column.now args.weight.now) (length args.chosen.now) args.text.now
-    (ap length at-clear-bytes.clear-bytes.ensures ∙ length-replicate (length args.chosen.now) 0) _
-    at-check-inputs.check-inputs.ensures c.before.r.given.1 at-clear-bytes.clear-bytes.ensures
+    (ap length at-clear-bytes.clear_bytes.ensures ∙ length-replicate (length args.chosen.now) 0) _
+    at-check-inputs.check_inputs.ensures c.in-Refused.is at-clear-bytes.clear_bytes.ensures
 
-returns-2 : tie.Need-returns-2
+returns-2 : tie.Need-returns-in-Read
 returns-2 c =
-    let at-read-subgraph-lines = c.before.before.before.before in
+    let at-read-subgraph-lines = c.before.before.before in
     let at-enum-told = at-read-subgraph-lines.before.before in
-    let at-check-inputs = at-enum-told.before.before in
+    let at-check-inputs = at-enum-told.before in
     let at-clear-bytes = at-check-inputs.before.before.before in
-    let args = at-clear-bytes.before.before.before.before.before.before.args in
+    let args = at-clear-bytes.args in
     whole_read (graph_of args.s args.row.now args.column.now args.weight.now) (length args.chosen.now) args.text.now
-    (ap length at-clear-bytes.clear-bytes.ensures ∙ length-replicate (length args.chosen.now) 0) _
-    at-check-inputs.check-inputs.ensures at-enum-told.enum_told.given.1 (any_weights at-read-subgraph-lines.read-subgraph-lines.ensures _)
-    c.enum-told2.given.1
+    (ap length at-clear-bytes.clear_bytes.ensures ∙ length-replicate (length args.chosen.now) 0) _
+    at-check-inputs.check_inputs.ensures at-enum-told.in-Passed.is (any_weights at-read-subgraph-lines.read_subgraph_lines.ensures _)
+    c.in-Read.is
 
-returns-3 : tie.Need-returns-3
+returns-3 : tie.Need-returns-in-Refused-read_subgraph_lines
 returns-3 c =
-    let clear-bytes2 = c.before.before.clear-bytes2 in
-    let at-r2 = c.before.before.before.before.before in
-    let at-read-subgraph-lines = at-r2.before.before.before.before in
+    let clear-bytes2 = c.clear_bytes-in-Refused-read_subgraph_lines in
+    let at-r2 = c.before.before.before.before in
+    let at-read-subgraph-lines = at-r2.before.before.before in
     let at-enum-told = at-read-subgraph-lines.before.before in
-    let at-check-inputs = at-enum-told.before.before in
+    let at-check-inputs = at-enum-told.before in
     let at-clear-bytes = at-check-inputs.before.before.before in
-    let args = at-clear-bytes.before.before.before.before.before.before.args in
+    let args = at-clear-bytes.args in
     whole_refused (graph_of args.s args.row.now args.column.now args.weight.now) (length args.chosen.now) args.text.now
-    (ap length at-clear-bytes.clear-bytes.ensures ∙ length-replicate (length args.chosen.now) 0) _
-    at-check-inputs.check-inputs.ensures at-enum-told.enum_told.given.1 (any_weights at-read-subgraph-lines.read-subgraph-lines.ensures _)
-    at-r2.r2.given.1
+    (ap length at-clear-bytes.clear_bytes.ensures ∙ length-replicate (length args.chosen.now) 0) _
+    at-check-inputs.check_inputs.ensures at-enum-told.in-Passed.is (any_weights at-read-subgraph-lines.read_subgraph_lines.ensures _)
+    at-r2.in-Refused-read_subgraph_lines.is
     (clear-bytes2.ensures
     ∙ ap (λ (k : ℕ). replicate k 0)
-    (at-read-subgraph-lines.read-subgraph-lines.auto.1.1.1.1.0
-    ∙ (ap length at-clear-bytes.clear-bytes.ensures ∙ length-replicate (length args.chosen.now) 0)))
+    (at-read-subgraph-lines.read_subgraph_lines.auto.1.1.1.1.0
+    ∙ (ap length at-clear-bytes.clear_bytes.ensures ∙ length-replicate (length args.chosen.now) 0)))
 
-pub read-subgraph-spec : {M : Type 1} → statement M
-read-subgraph-spec =
+pub read_subgraph_spec : {M : Type 1} → statement M
+read_subgraph_spec =
     tie.close
     (tie.spec
     (λ c κs. search rules)

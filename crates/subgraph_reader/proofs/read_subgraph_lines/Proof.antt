@@ -17,134 +17,134 @@ use Rattle.subgraph_reader.proofs.read_subgraph_lines.Tie as tie
 abbrev graph : tie.Start → Graph
 graph s = graph_of s.args.s s.args.row.now s.args.column.now []
 
-sub-header-kind : tie.Need-overflow-sub-header-kind
+sub-header-kind : tie.Need-slice_bounds-header_kind-count
 sub-header-kind c =
-    let header-line = c.before.before.before.header-line in
-    (opened_line header-line.ensures c.before.start.given.1).forward
+    let header-line = c.header_line in
+    (opened_line header-line.ensures c.in-At.is).forward
 
-part-header-kind-start : tie.Need-slice-bounds-header-kind-start
+part-header-kind-start : tie.Need-slice_bounds-header_kind-start
 part-header-kind-start c =
-    let header-line = c.before.before.before.header-line in
-    (opened_line header-line.ensures c.before.start.given.1).forward
+    let header-line = c.header_line in
+    (opened_line header-line.ensures c.in-At.is).forward
 
-part-header-kind-end : tie.Need-slice-bounds-header-kind-end
+part-header-kind-end : tie.Need-slice_bounds-header_kind-end
 part-header-kind-end c =
-    let header-line = c.before.before.before.header-line in
-    (opened_line header-line.ensures c.before.start.given.1).ends
+    let header-line = c.header_line in
+    (opened_line header-line.ensures c.in-At.is).ends
 
-returns : tie.Need-returns
+returns : tie.Need-returns-in_default
 returns c =
-    let at-header-kind = c.before.before.before in
+    let at-header-kind = c.before.before in
     let at-start = at-header-kind.before.before.before.before in
-    let at-header-line = at-start.before.before in
+    let at-header-line = at-start in
     let start = at-header-line.before.before.before.before.before in
     let g = graph start in
     read_refused g _
-    (header-stops (subgraph_layout New g) at-header-line.header-line.ensures at-start.start.given.1 Header
-    (header-not g at-header-kind.header-kind.ensures c.before.enum_told.given.1) c.refused-at.ensures)
+    (header-stops (subgraph_layout New g) at-header-line.header_line.ensures at-start.in-At.is Header
+    (header-not g at-header-kind.header_kind.ensures c.in_default.is) c.refused_at.ensures)
 
-returns-2 : tie.Need-returns-2
+returns-2 : tie.Need-returns-then-not-same_kind
 returns-2 c =
-    let same_kind = c.before.before.same_kind in
-    let at-kind = c.before.before.before.before in
-    let at-header-kind = at-kind.before.before in
+    let same_kind = c.same_kind in
+    let at-kind = c.before.before.before in
+    let at-header-kind = at-kind.before in
     let at-start = at-header-kind.before.before.before.before in
-    let at-header-line = at-start.before.before in
+    let at-header-line = at-start in
     let start = at-header-line.before.before.before.before.before in
     let g = graph start in
     read_refused g _
-    (header-stops (subgraph_layout New g) at-header-line.header-line.ensures at-start.start.given.1 Disagreement
-    (header-differs g at-header-kind.header-kind.ensures at-kind.kind.given.1 same_kind.ensures c.before.if1.true)
-    c.refused-at2.ensures)
+    (header-stops (subgraph_layout New g) at-header-line.header_line.ensures at-start.in-At.is Disagreement
+    (header-differs g at-header-kind.header_kind.ensures at-kind.in-Is.is same_kind.ensures c.if-not-same_kind.true)
+    c.refused_at-then-not-same_kind.ensures)
 
-size-line-requires : tie.Need-size-line-requires
+size-line-requires : tie.Need-size_line-requires
 size-line-requires c κs =
-    let at-start = c.before.before.before.before.before.before.before.before.before in
-    let header-line = at-start.before.before.header-line in
-    (opened_line header-line.ensures at-start.start.given.1).reached
+    let at-start = c.before.before.before.before.before.before.before in
+    let header-line = at-start.header_line in
+    (opened_line header-line.ensures at-start.in-At.is).reached
 
-sub-plan-size-on : tie.Need-overflow-sub-plan-size-on
+sub-plan-size-on : tie.Need-slice_bounds-plan_size_on-count
 sub-plan-size-on c =
-    let size-line = c.before.before.before.size-line in
-    (opened_line size-line.ensures c.before.start2.given.1).forward
+    let size-line = c.size_line in
+    (opened_line size-line.ensures c.in-At-size_line.is).forward
 
-part-plan-size-on-start : tie.Need-slice-bounds-plan-size-on-start
+part-plan-size-on-start : tie.Need-slice_bounds-plan_size_on-start
 part-plan-size-on-start c =
-    let size-line = c.before.before.before.size-line in
-    (opened_line size-line.ensures c.before.start2.given.1).forward
+    let size-line = c.size_line in
+    (opened_line size-line.ensures c.in-At-size_line.is).forward
 
-part-plan-size-on-end : tie.Need-slice-bounds-plan-size-on-end
+part-plan-size-on-end : tie.Need-slice_bounds-plan_size_on-end
 part-plan-size-on-end c =
-    let size-line = c.before.before.before.size-line in
-    (opened_line size-line.ensures c.before.start2.given.1).ends
+    let size-line = c.size_line in
+    (opened_line size-line.ensures c.in-At-size_line.is).ends
 
-read-marks-requires : tie.Need-read-marks-requires
+read-marks-requires : tie.Need-read_marks-requires
 read-marks-requires c κs =
     let count = c.before.before.count in
-    let at-plan-size-on = c.before.before.before.before in
-    let at-start2 = at-plan-size-on.before.before.before in
-    let at-size-line = at-start2.before.before in
+    let at-plan-size-on = c.before.before in
+    let at-start2 = at-plan-size-on.before.before in
+    let at-size-line = at-start2.before in
     let at-if1 = at-size-line.before in
     let at-same-kind = at-if1.before in
-    let at-kind = at-same-kind.before.before in
-    let at-header-kind = at-kind.before.before in
+    let at-kind = at-same-kind.before in
+    let at-header-kind = at-kind.before in
     let at-start = at-header-kind.before.before.before.before in
-    let at-header-line = at-start.before.before in
+    let at-header-line = at-start in
     let start = at-header-line.before.before.before.before.before in
     let g = graph start in
-    let w = header-goes (subgraph_layout New g) at-header-line.header-line.ensures at-start.start.given.1 tt
-    (header-agrees g at-header-kind.header-kind.ensures at-kind.kind.given.1 at-same-kind.same_kind.ensures at-if1.if1.false) in
+    let w = header-goes (subgraph_layout New g) at-header-line.header_line.ensures at-start.in-At.is tt
+    (header-agrees g at-header-kind.header_kind.ensures at-kind.in-Is.is at-same-kind.same_kind.ensures at-if1.if-not-same_kind.false) in
     let z = start.requires.1 in (
       rw z
-          (size_goes (subgraph_layout New g) w at-size-line.size-line.ensures at-start2.start2.given.1 _
-          (size_says start.args.s start.args.row.now start.args.column.now _ at-plan-size-on.plan-size-on.ensures _ count.given.1)),
+          (size_goes (subgraph_layout New g) w at-size-line.size_line.ensures at-start2.in-At-size_line.is _
+          (size_says start.args.s start.args.row.now start.args.column.now _ at-plan-size-on.plan_size_on.ensures _ count.given.1)),
       (start.requires.0.0, start.requires.0.1, ap length z ∙ length-replicate start.args.s.edges 0),
     )
 
-returns-3 : tie.Need-returns-3
+returns-3 : tie.Need-returns-in-Refused
 returns-3 c =
-    let at-header-line = c.before.before.before in
+    let at-header-line = c.before in
     let start = at-header-line.before.before.before.before.before in
-    let g = graph start in read_refused g _ (header_refused (subgraph_layout New g) at-header-line.header-line.ensures c.before.r.given.1)
+    let g = graph start in read_refused g _ (header_refused (subgraph_layout New g) at-header-line.header_line.ensures c.in-Refused.is)
 
-returns-4 : tie.Need-returns-4
+returns-4 : tie.Need-returns-in-Refused-size_line
 returns-4 c =
-    let at-size-line = c.before.before.before in
+    let at-size-line = c.before in
     let at-if1 = at-size-line.before in
     let at-same-kind = at-if1.before in
-    let at-kind = at-same-kind.before.before in
-    let at-header-kind = at-kind.before.before in
+    let at-kind = at-same-kind.before in
+    let at-header-kind = at-kind.before in
     let at-start = at-header-kind.before.before.before.before in
-    let at-header-line = at-start.before.before in
+    let at-header-line = at-start in
     let start = at-header-line.before.before.before.before.before in
     let g = graph start in
-    let w = header-goes (subgraph_layout New g) at-header-line.header-line.ensures at-start.start.given.1 tt
-    (header-agrees g at-header-kind.header-kind.ensures at-kind.kind.given.1 at-same-kind.same_kind.ensures at-if1.if1.false) in
-    read_refused g _ (size_refused (subgraph_layout New g) w at-size-line.size-line.ensures c.before.r2.given.1)
+    let w = header-goes (subgraph_layout New g) at-header-line.header_line.ensures at-start.in-At.is tt
+    (header-agrees g at-header-kind.header_kind.ensures at-kind.in-Is.is at-same-kind.same_kind.ensures at-if1.if-not-same_kind.false) in
+    read_refused g _ (size_refused (subgraph_layout New g) w at-size-line.size_line.ensures c.in-Refused-size_line.is)
 
-returns-5 : tie.Need-returns-5
+returns-5 : tie.Need-returns-in-Refused-plan_size_on
 returns-5 c =
     let fault = c.before.before.fault in
-    let at-plan-size-on = c.before.before.before.before in
-    let at-start2 = at-plan-size-on.before.before.before in
-    let at-size-line = at-start2.before.before in
+    let at-plan-size-on = c.before.before in
+    let at-start2 = at-plan-size-on.before.before in
+    let at-size-line = at-start2.before in
     let at-if1 = at-size-line.before in
     let at-same-kind = at-if1.before in
-    let at-kind = at-same-kind.before.before in
-    let at-header-kind = at-kind.before.before in
+    let at-kind = at-same-kind.before in
+    let at-header-kind = at-kind.before in
     let at-start = at-header-kind.before.before.before.before in
-    let at-header-line = at-start.before.before in
+    let at-header-line = at-start in
     let start = at-header-line.before.before.before.before.before in
     let g = graph start in
-    let w = header-goes (subgraph_layout New g) at-header-line.header-line.ensures at-start.start.given.1 tt
-    (header-agrees g at-header-kind.header-kind.ensures at-kind.kind.given.1 at-same-kind.same_kind.ensures at-if1.if1.false) in
+    let w = header-goes (subgraph_layout New g) at-header-line.header_line.ensures at-start.in-At.is tt
+    (header-agrees g at-header-kind.header_kind.ensures at-kind.in-Is.is at-same-kind.same_kind.ensures at-if1.if-not-same_kind.false) in
     read_refused g _
-    (size_stops (subgraph_layout New g) w at-size-line.size-line.ensures at-start2.start2.given.1 _
-    (size_says start.args.s start.args.row.now start.args.column.now _ at-plan-size-on.plan-size-on.ensures _ fault.given.1)
-    c.refused-at3.ensures)
+    (size_stops (subgraph_layout New g) w at-size-line.size_line.ensures at-start2.in-At-size_line.is _
+    (size_says start.args.s start.args.row.now start.args.column.now _ at-plan-size-on.plan_size_on.ensures _ fault.given.1)
+    c.refused_at-in-Refused-plan_size_on.ensures)
 
-pub read-subgraph-lines-spec : {M : Type 1} → statement M
-read-subgraph-lines-spec =
+pub read_subgraph_lines_spec : {M : Type 1} → statement M
+read_subgraph_lines_spec =
     tie.close
     (tie.spec
     (λ c κs. search rules)

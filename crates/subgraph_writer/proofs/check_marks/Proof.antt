@@ -12,34 +12,34 @@ abbrev graph : tie.Start → Graph
 graph s = graph_of s.args.s s.args.row.now s.args.column.now s.args.weight.now
 
 -- Where the lengths and the graph's numbers have passed.
-left : (c : tie.After-enum-told) →
-    let s = c.before.before.before.before.before.before.before.before in
+left : (c : tie.In_default) →
+    let s = c.before.before.before.before.before.before.before in
     MarksLeft (graph s) s.args.chosen.now s.args.out
 left c =
-    let at_both = c.before.before.before in
+    let at_both = c.before.before in
     let s = at_both.before.before.before.before.before in
-    numbers_passed (graph s) s.args.chosen.now s.args.out at_both.both.ensures c.before.before.check-lent.ensures c.enum_told.given.1
+    numbers_passed (graph s) s.args.chosen.now s.args.out at_both.both-others.ensures c.check_lent.ensures c.in_default.is
 
-returns : tie.Need-returns
+returns : tie.Need-returns-in-Refused
 returns c =
-    let at-check-lent = c.before.before.before in
+    let at-check-lent = c.before in
     let at_both = at-check-lent.before in
     let s = at_both.before.before.before.before.before in
-    numbers_refused (graph s) s.args.chosen.now s.args.out at_both.both.ensures at-check-lent.check-lent.ensures c.before.r.given.1
+    numbers_refused (graph s) s.args.chosen.now s.args.out at_both.both-others.ensures at-check-lent.check_lent.ensures c.in-Refused.is
 
-refused-item-requires : tie.Need-refused-item-requires
-refused-item-requires c κs = omega (arith, mark_few (left c.before.before.before.before) c.before.before.before.lowest-mark.ensures c.before.e.given.1)
+refused-item-requires : tie.Need-refused_item-requires
+refused-item-requires c κs = omega (arith, mark_few (left c.before.before) c.lowest_mark.ensures c.in-At.is)
 
-returns-2 : tie.Need-returns-2
+returns-2 : tie.Need-returns-in-At
 returns-2 c =
-    c.refused-item.ensures
-    ∙ mark_refused (left c.before.before.before.before.before) c.before.before.before.before.lowest-mark.ensures c.before.before.e.given.1
+    c.refused_item.ensures
+    ∙ mark_refused (left c.before.before.before) c.lowest_mark.ensures c.in-At.is
 
-returns-3 : tie.Need-returns-3
-returns-3 c = marks_kept (left c.before.before.before) c.before.before.lowest-mark.ensures c.enum-told2.given.1
+returns-3 : tie.Need-returns
+returns-3 c = marks_kept (left c.before.before) c.lowest_mark.ensures c.in_default-lowest_mark.is
 
-pub check-marks-spec : {M : Type 1} → statement M
-check-marks-spec =
+pub check_marks_spec : {M : Type 1} → statement M
+check_marks_spec =
     tie.close
     (tie.spec
     (λ c. search rules)

@@ -14,9 +14,13 @@ returns c =
     let start = c.before.before in
     let a = start.args in
     let z = get_or a.bound.now a.v (pos 0) in
-    let e : pos c.natural.result ≡ z = c.natural.ensures.0 ∙ back w32 z c.before.natural-arg.given in
+    let e : pos c.natural.result ≡ z = c.natural.ensures.0 ∙ back w32 z c.natural-arg-1.given in
     (e, omega (order, start.requires.1.1, ap up e, ap dn e))
 
-pub bound-of-spec : {M : Type 1} → statement M
-bound-of-spec =
-    tie.close (tie.spec (λ c. search rules) (λ c. search rules) (λ c κs. search rules) returns)
+pub bound_of_spec : {M : Type 1} → statement M
+bound_of_spec =
+    tie.close (tie.spec
+    (λ c. search rules)
+    (λ c. search rules)
+    (λ c κs. search rules)
+    returns)

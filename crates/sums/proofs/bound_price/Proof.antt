@@ -7,17 +7,21 @@ use Rattle.sums.proofs.bound_price.Tie as tie
 
 scale-requires : tie.Need-scale-requires
 scale-requires c κs =
-    let b = c.before.bound_of in
+    let b = c.bound_of in
     let x = c.element in
-    scalable x.result b.result x.type-inv (omega (arith, b.ensures.1)) x.ensures.1
+    scalable x.result b.result x.type_inv (omega (arith, b.ensures.1)) x.ensures.1
 
 returns : tie.Need-returns
 returns c =
-    let b = c.before.before.bound_of in
-    let x = c.before.element in
+    let b = c.bound_of in
+    let x = c.element in
     let r = c.scale in
-    let w = scaled r.result x.result b.result r.type-inv x.type-inv (omega (arith, b.ensures.1)) b.ensures.0 x.ensures r.ensures in
+    let w = scaled r.result x.result b.result r.type_inv x.type_inv (omega (arith, b.ensures.1)) b.ensures.0 x.ensures r.ensures in
     (w.0, omega (arith, w.1))
 
-pub bound-price-spec : {M : Type 1} → statement M
-bound-price-spec = tie.close (tie.spec (λ c κs. search rules) (λ c κs. search rules) scale-requires returns)
+pub bound_price_spec : {M : Type 1} → statement M
+bound_price_spec = tie.close (tie.spec
+    (λ c κs. search rules)
+    (λ c κs. search rules)
+    scale-requires
+    returns)

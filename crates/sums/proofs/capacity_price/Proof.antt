@@ -9,20 +9,24 @@ use Rattle.sums.proofs.capacity_price.Tie as tie
 
 scale-requires : tie.Need-scale-requires
 scale-requires c κs =
-    let pre = c.before.before.requires in
-    let k = c.before.capacity in
+    let pre = c.requires in
+    let k = c.capacity in
     let x = c.element in
-    scalable x.result k.result x.type-inv (omega (arith, pre.0, k.ensures)) x.ensures.1
+    scalable x.result k.result x.type_inv (omega (arith, pre.0, k.ensures)) x.ensures.1
 
 returns : tie.Need-returns
 returns c =
-    let pre = c.before.before.before.requires in
-    let k = c.before.before.capacity in
-    let x = c.before.element in
+    let pre = c.requires in
+    let k = c.capacity in
+    let x = c.element in
     let r = c.scale in
-    let w = scaled r.result x.result k.result r.type-inv x.type-inv (omega (arith, pre.0, k.ensures)) (ap pos k.ensures) x.ensures r.ensures in
+    let w = scaled r.result x.result k.result r.type_inv x.type_inv (omega (arith, pre.0, k.ensures)) (ap pos k.ensures) x.ensures r.ensures in
     (w.0, omega (arith, w.1))
 
-pub capacity-price-spec : {M : Type 1} → statement M
-capacity-price-spec =
-    tie.close (tie.spec (λ c κs. search rules) (λ c κs. search rules) scale-requires returns)
+pub capacity_price_spec : {M : Type 1} → statement M
+capacity_price_spec =
+    tie.close (tie.spec
+    (λ c κs. search rules)
+    (λ c κs. search rules)
+    scale-requires
+    returns)

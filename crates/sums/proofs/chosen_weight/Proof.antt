@@ -7,10 +7,14 @@ use Rattle.sums.proofs.chosen_weight.Tie as tie
 
 returns : tie.Need-returns
 returns c =
-    let x = c.before.element in
-    let r = c.if-chosen in
-    by_mark r.result x.result _ r.ok x.type-inv x.ensures (omega arith) r.ensures
+    let x = c.element in
+    let r = c.if_chosen in
+    by_mark r.result x.result _ r.ok x.type_inv x.ensures (omega arith) r.ensures
 
-pub chosen-weight-spec : {M : Type 1} → statement M
-chosen-weight-spec =
-    tie.close (tie.spec (λ c. search rules) (λ c κs. search rules) (λ c κs. search rules) returns)
+pub chosen_weight_spec : {M : Type 1} → statement M
+chosen_weight_spec =
+    tie.close (tie.spec
+    (λ c. search rules)
+    (λ c κs. search rules)
+    (λ c κs. search rules)
+    returns)

@@ -11,46 +11,46 @@ use native.Mathlib.Omega.{arith}
 use Rattle.sums.proofs.lowest_uncovered.Statement.{statement}
 use Rattle.sums.proofs.lowest_uncovered.Tie as tie
 
-abbrev invariant-loop : tie.invariant-loop
+abbrev invariant-loop : tie.invariant-loop-e
 invariant-loop edges weight cover m e₀ e = KeptBelow m (λ j. le_z (half_points (get_or weight j (pos 0))) (get_or cover j (pos 0))) e
 
-abbrev decreases-loop : tie.decreases-loop
+abbrev decreases-loop : tie.decreases-loop-e
 decreases-loop edges weight cover m e₀ e = m - e
 
-loop-holds : tie.Need-loop-init invariant-loop decreases-loop
+loop-holds : tie.Need-loop-e-init invariant-loop decreases-loop
 loop-holds c = kept_none
 
-is-covered-requires : tie.Need-is-covered-requires invariant-loop decreases-loop
-is-covered-requires c κs = omega (arith, c.before.before.before.requires.1)
+is-covered-requires : tie.Need-is_covered-requires invariant-loop decreases-loop
+is-covered-requires c κs = omega (arith, c.requires.1)
 
-element-copy-out-is-covered : tie.Need-element-copy-out-is-covered invariant-loop decreases-loop
-element-copy-out-is-covered c = omega (arith, c.before.before.requires.0)
+element-copy-out-is-covered : tie.Need-bounds-cover-e invariant-loop decreases-loop
+element-copy-out-is-covered c = omega (arith, c.requires.0)
 
 -- The answer on edge e.
-said : (c : tie.After-is-covered invariant-loop decreases-loop) →
-    let loop = c.before.before.before.loop in
-    let args = c.before.before.before.before.args in
-    c.is-covered.result ≡ le_z (half_points (get_or args.weight.now loop.e (pos 0))) (get_or args.cover.now loop.e (pos 0))
+said : (c : tie.After-is_covered invariant-loop decreases-loop) →
+    let loop = c.loop-e in
+    let args = c.args in
+    c.is_covered.result ≡ le_z (half_points (get_or args.weight.now loop.e (pos 0))) (get_or args.cover.now loop.e (pos 0))
 said c =
-    let loop = c.before.before.before.loop in
-    let args = c.before.before.before.before.args in
-    c.is-covered.ensures ∙ ap (le_z (half_points (get_or args.weight.now loop.e (pos 0)))) (stored_is (get_or args.cover.now loop.e (pos 0)) c.before.is-covered-arg.given)
+    let loop = c.loop-e in
+    let args = c.args in
+    c.is_covered.ensures ∙ ap (le_z (half_points (get_or args.weight.now loop.e (pos 0)))) (stored_is (get_or args.cover.now loop.e (pos 0)) c.is_covered-arg-1.given)
 
-loop-again : tie.Need-loop-preserved invariant-loop decreases-loop
+loop-again : tie.Need-loop-e-preserved invariant-loop decreases-loop
 loop-again c =
     let at-loop-test = c.before.before.before in
-    kept_more at-loop-test.before.loop.invariant at-loop-test.loop-test.true (sym (said c.before) ∙ c.if1.true)
+    kept_more at-loop-test.loop-e.invariant at-loop-test.loop-e-test.true (sym (said c.before) ∙ c.if-is_covered.true)
 
-returns : tie.Need-returns invariant-loop decreases-loop
+returns : tie.Need-returns-else-is_covered invariant-loop decreases-loop
 returns c =
     let at-loop-test = c.before.before.before in
-    kept_broken at-loop-test.before.loop.invariant at-loop-test.loop-test.true (sym (said c.before) ∙ c.if1.false)
+    kept_broken at-loop-test.loop-e.invariant at-loop-test.loop-e-test.true (sym (said c.before) ∙ c.if-is_covered.false)
 
-returns-2 : tie.Need-returns-2 invariant-loop decreases-loop
-returns-2 c = kept_all c.before.loop.invariant c.loop-test.false
+returns-2 : tie.Need-returns invariant-loop decreases-loop
+returns-2 c = kept_all c.loop-e.invariant c.loop-e-test.false
 
-pub lowest-uncovered-spec : {M : Type 1} → statement M
-lowest-uncovered-spec =
+pub lowest_uncovered_spec : {M : Type 1} → statement M
+lowest_uncovered_spec =
     tie.close
     (tie.spec
     invariant-loop

@@ -7,11 +7,15 @@ use Rattle.sums.proofs.residual_price.Tie as tie
 
 returns : tie.Need-returns
 returns c =
-    let args = c.before.before.before.args in
-    let r = c.price-of-rest in
-    let x = c.before.before.element in
-    rest_held r.result x.result args.degree r.type-inv x.type-inv x.ensures.0 c.before.bound_of.ensures.0 refl r.ensures
+    let args = c.args in
+    let r = c.price_of_rest in
+    let x = c.element in
+    rest_held r.result x.result args.degree r.type_inv x.type_inv x.ensures.0 c.bound_of.ensures.0 refl r.ensures
 
-pub residual-price-spec : {M : Type 1} → statement M
-residual-price-spec =
-    tie.close (tie.spec (λ c κs. search rules) (λ c κs. search rules) (λ c κs. search rules) returns)
+pub residual_price_spec : {M : Type 1} → statement M
+residual_price_spec =
+    tie.close (tie.spec
+    (λ c κs. search rules)
+    (λ c κs. search rules)
+    (λ c κs. search rules)
+    returns)

@@ -14,47 +14,47 @@ use native.Mathlib.Omega.{arith}
 use Rattle.sums.proofs.set_cover.Statement.{statement}
 use Rattle.sums.proofs.set_cover.Tie as tie
 
-abbrev invariant-loop : tie.invariant-loop
+abbrev invariant-loop : tie.invariant-loop-k
 invariant-loop e ends sets set-price insides markings count total₀ k₀ total k =
     Summedℤ count 2147483648 (λ j. pos (one (covers_by insides markings j e ends.first ends.second)) *ℤ get_or set-price j (pos 0)) k
     (to_z w64 total)
 
-abbrev decreases-loop : tie.decreases-loop
+abbrev decreases-loop : tie.decreases-loop-k
 decreases-loop e ends sets set-price insides markings count total₀ k₀ total k = count - k
 
-loop-holds : tie.Need-loop-init invariant-loop decreases-loop
+loop-holds : tie.Need-loop-k-init invariant-loop decreases-loop
 loop-holds c = summedℤ_none
 
-price-covering-requires : tie.Need-price-covering-requires invariant-loop decreases-loop
+price-covering-requires : tie.Need-price_covering-price-requires invariant-loop decreases-loop
 price-covering-requires c κs =
-    let p = c.before.before.before.before.requires in
+    let p = c.requires in
     ((p.0.0, p.0.1, p.0.2, omega (arith, p.1.1)), (omega (arith, p.1.2), omega (arith, p.1.3)))
 
-add-requires : tie.Need-add-requires invariant-loop decreases-loop
+add-requires : tie.Need-add-total-requires invariant-loop decreases-loop
 add-requires c κs =
-    let inv = c.before.before.loop.invariant in
-    let pre = c.before.before.before.before.before.requires in
-    let x = c.price-covering in
-    let w : Within (2 ^ 31) (stored x.result) = stored_within x.result x.type-inv x.ensures.1 (omega arith) in
+    let inv = c.loop-k.invariant in
+    let pre = c.requires in
+    let x = c.price_covering-price in
+    let w : Within (2 ^ 31) (stored x.result) = stored_within x.result x.type_inv x.ensures.1 (omega arith) in
     omega (arith, inv.small, w, pre.1.0)
 
-loop-again : tie.Need-loop-preserved invariant-loop decreases-loop
+loop-again : tie.Need-loop-k-preserved invariant-loop decreases-loop
 loop-again c =
-    let loop-test = c.before.before.loop-test in
-    let inv = c.before.before.before.loop.invariant in
-    let x = c.before.price-covering in
-    let r = c.add in
+    let loop-test = c.loop-k-test in
+    let inv = c.loop-k.invariant in
+    let x = c.price_covering-price in
+    let r = c.add-total in
     summedℤ_more inv loop-test.true
-    (stored_is x.result x.type-inv ∙ x.ensures.0, stored_within x.result x.type-inv x.ensures.1 (omega arith)) (stored_is r.result r.type-inv ∙ r.ensures)
+    (stored_is x.result x.type_inv ∙ x.ensures.0, stored_within x.result x.type_inv x.ensures.1 (omega arith)) (stored_is r.result r.type_inv ∙ r.ensures)
 
 returns : tie.Need-returns invariant-loop decreases-loop
 returns c =
-    let pre = c.before.before.before.before.requires in
-    let w = summedℤ_all c.before.loop.invariant c.loop-test.false in
+    let pre = c.requires in
+    let w = summedℤ_all c.loop-k.invariant c.loop-k-test.false in
     (w.0, omega (arith, w.1, pre.1.0))
 
-pub set-cover-spec : {M : Type 1} → statement M
-set-cover-spec =
+pub set_cover_spec : {M : Type 1} → statement M
+set_cover_spec =
     tie.close
     (tie.spec
     invariant-loop

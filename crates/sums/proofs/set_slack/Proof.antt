@@ -12,61 +12,61 @@ use native.Mathlib.Omega.{arith}
 use Rattle.sums.proofs.set_slack.Statement.{statement}
 use Rattle.sums.proofs.set_slack.Tie as tie
 
-abbrev invariant-loop : tie.invariant-loop
+abbrev invariant-loop : tie.invariant-loop-k
 invariant-loop sets set-price load covered count total₀ k₀ total k =
     Adding count (λ j. get_or set-price j (pos 0) *ℤ (pos (get_or load j 0 / 2) -ℤ pos (get_or covered j 0))) k (to_z w64 total)
 
-abbrev decreases-loop : tie.decreases-loop
+abbrev decreases-loop : tie.decreases-loop-k
 decreases-loop sets set-price load covered count total₀ k₀ total k = count - k
 
-loop-holds : tie.Need-loop-init invariant-loop decreases-loop
+loop-holds : tie.Need-loop-k-init invariant-loop decreases-loop
 loop-holds c = summedℤ_none
 
-array-read-capacity : tie.Need-array-read-capacity invariant-loop decreases-loop
-array-read-capacity c = omega (arith, c.before.before.requires.0.0)
+array-read-capacity : tie.Need-bounds-load-k invariant-loop decreases-loop
+array-read-capacity c = omega (arith, c.requires.0.0)
 
 element-requires : tie.Need-element-requires invariant-loop decreases-loop
-element-requires c κs = omega (arith, c.before.before.before.requires.0.1)
+element-requires c κs = omega (arith, c.requires.0.1)
 
-array-read-price-of-rest : tie.Need-array-read-price-of-rest invariant-loop decreases-loop
-array-read-price-of-rest c = omega (arith, c.before.before.before.before.requires.0.0)
+array-read-price-of-rest : tie.Need-bounds-covered-k invariant-loop decreases-loop
+array-read-price-of-rest c = omega (arith, c.requires.0.0)
 
-price-of-rest-requires : tie.Need-price-of-rest-requires invariant-loop decreases-loop
+price-of-rest-requires : tie.Need-price_of_rest-rest-requires invariant-loop decreases-loop
 price-of-rest-requires c κs =
-    let loop-test = c.before.before.loop-test in
+    let loop-test = c.loop-k-test in
     let at-loop = c.before.before.before in
-    let pre = at-loop.before.requires in
-    let w = pre.1 at-loop.loop.k loop-test.true in
+    let pre = at-loop.requires in
+    let w = pre.1 at-loop.loop-k.k loop-test.true in
     let x = c.element in
-    (omega (arith, w.0, c.before.capacity.ensures), w.1, stored_within x.result x.type-inv x.ensures.1 (omega arith))
+    (omega (arith, w.0, c.capacity-most.ensures), w.1, stored_within x.result x.type_inv x.ensures.1 (omega arith))
 
-add-requires : tie.Need-add-requires invariant-loop decreases-loop
+add-requires : tie.Need-add-total-requires invariant-loop decreases-loop
 add-requires c κs =
     let at-loop = c.before.before.before.before in
-    let pre = at-loop.before.requires in
-    let x = c.price-of-rest in
-    addable at-loop.loop.invariant x.result (omega (arith, pre.0.0)) x.type-inv x.ensures.1
+    let pre = at-loop.requires in
+    let x = c.price_of_rest-rest in
+    addable at-loop.loop-k.invariant x.result (omega (arith, pre.0.0)) x.type_inv x.ensures.1
 
-loop-again : tie.Need-loop-preserved invariant-loop decreases-loop
+loop-again : tie.Need-loop-k-preserved invariant-loop decreases-loop
 loop-again c =
     let at-capacity = c.before.before.before in
     let at-loop-test = at-capacity.before in
     let at-loop = at-loop-test.before in
-    let args = at-loop.before.args in
-    let x = c.before.price-of-rest in
-    let r = c.add in
-    let p = c.before.before.element in
-    let used = get_or args.t3 at-loop.loop.k 0 in
-    let is = ap₂ (λ (z : ℤ) (n : ℕ). z *ℤ (pos n -ℤ pos used)) (stored_is p.result p.type-inv ∙ p.ensures.0) at-capacity.capacity.ensures in
-    added at-loop.loop.invariant x.result r.result at-loop-test.loop-test.true x.type-inv r.type-inv (x.ensures.0 ∙ is, x.ensures.1) r.ensures
+    let args = at-loop.args in
+    let x = c.price_of_rest-rest in
+    let r = c.add-total in
+    let p = c.element in
+    let used = get_or args.t3 at-loop.loop-k.k 0 in
+    let is = ap₂ (λ (z : ℤ) (n : ℕ). z *ℤ (pos n -ℤ pos used)) (stored_is p.result p.type_inv ∙ p.ensures.0) at-capacity.capacity-most.ensures in
+    added at-loop.loop-k.invariant x.result r.result at-loop-test.loop-k-test.true x.type_inv r.type_inv (x.ensures.0 ∙ is, x.ensures.1) r.ensures
 
 returns : tie.Need-returns invariant-loop decreases-loop
 returns c =
-    let pre = c.before.before.requires in
-    added_all c.before.loop.invariant c.loop-test.false (omega (arith, pre.0.0)) refl
+    let pre = c.requires in
+    added_all c.loop-k.invariant c.loop-k-test.false (omega (arith, pre.0.0)) refl
 
-pub set-slack-spec : {M : Type 1} → statement M
-set-slack-spec =
+pub set_slack_spec : {M : Type 1} → statement M
+set_slack_spec =
     tie.close
     (tie.spec
     invariant-loop

@@ -7,12 +7,12 @@ use Rattle.sums.proofs.unchosen_price.Tie as tie
 
 returns : tie.Need-returns
 returns c =
-    let x = c.before.element in
-    let r = c.if-chosen in
-    by_mark r.result x.result _ r.ok x.type-inv x.ensures (omega arith) r.ensures
+    let x = c.element in
+    let r = c.if_chosen in
+    by_mark r.result x.result _ r.ok x.type_inv x.ensures (omega arith) r.ensures
 
-pub unchosen-price-spec : {M : Type 1} → statement M
-unchosen-price-spec =
+pub unchosen_price_spec : {M : Type 1} → statement M
+unchosen_price_spec =
     tie.close
     (tie.spec
     (λ c. search rules)

@@ -10,44 +10,44 @@ use native.Mathlib.Omega.{arith}
 use Rattle.sums.proofs.vertex_total.Statement.{statement}
 use Rattle.sums.proofs.vertex_total.Tie as tie
 
-abbrev invariant-loop : tie.invariant-loop
+abbrev invariant-loop : tie.invariant-loop-v
 invariant-loop bound vertex-price n total₀ v₀ total v = Adding n (λ j. get_or bound j (pos 0) *ℤ get_or vertex-price j (pos 0)) v (to_z w64 total)
 
-abbrev decreases-loop : tie.decreases-loop
+abbrev decreases-loop : tie.decreases-loop-v
 decreases-loop bound vertex-price n total₀ v₀ total v = n - v
 
-loop-holds : tie.Need-loop-init invariant-loop decreases-loop
+loop-holds : tie.Need-loop-v-init invariant-loop decreases-loop
 loop-holds c = summedℤ_none
 
-bound-price-requires : tie.Need-bound-price-requires invariant-loop decreases-loop
+bound-price-requires : tie.Need-bound_price-requires invariant-loop decreases-loop
 bound-price-requires c κs =
-    let p = c.before.before.before.requires in
-    let n = c.before.before.vertex-count.ensures in
-    (omega (arith, n, p.1.long), p.1.range c.before.loop.v (omega (arith, n)), omega (arith, n, p.2))
+    let p = c.requires in
+    let n = c.vertex_count-n.ensures in
+    (omega (arith, n, p.1.long), p.1.range c.loop-v.v (omega (arith, n)), omega (arith, n, p.2))
 
-add-requires : tie.Need-add-requires invariant-loop decreases-loop
+add-requires : tie.Need-add-total-requires invariant-loop decreases-loop
 add-requires c κs =
-    let inv = c.before.before.loop.invariant in
+    let inv = c.loop-v.invariant in
     let at-vertex-count = c.before.before.before in
-    let pre = at-vertex-count.before.requires in
-    let x = c.bound-price in addable inv x.result (omega (arith, at-vertex-count.vertex-count.ensures, pre.0)) x.type-inv c.bound-price.ensures.1
+    let pre = at-vertex-count.requires in
+    let x = c.bound_price in addable inv x.result (omega (arith, at-vertex-count.vertex_count-n.ensures, pre.0)) x.type_inv c.bound_price.ensures.1
 
-loop-again : tie.Need-loop-preserved invariant-loop decreases-loop
+loop-again : tie.Need-loop-v-preserved invariant-loop decreases-loop
 loop-again c =
-    let loop-test = c.before.before.loop-test in
-    let inv = c.before.before.before.loop.invariant in
-    let x = c.before.bound-price in
-    let r = c.add in
-    added inv x.result r.result loop-test.true x.type-inv r.type-inv x.ensures r.ensures
+    let loop-test = c.loop-v-test in
+    let inv = c.loop-v.invariant in
+    let x = c.bound_price in
+    let r = c.add-total in
+    added inv x.result r.result loop-test.true x.type_inv r.type_inv x.ensures r.ensures
 
 returns : tie.Need-returns invariant-loop decreases-loop
 returns c =
-    let vertex-count = c.before.before.vertex-count in
-    let pre = c.before.before.before.requires in
-    added_all c.before.loop.invariant c.loop-test.false (omega (arith, vertex-count.ensures, pre.0)) vertex-count.ensures
+    let vertex-count = c.vertex_count-n in
+    let pre = c.requires in
+    added_all c.loop-v.invariant c.loop-v-test.false (omega (arith, vertex-count.ensures, pre.0)) vertex-count.ensures
 
-pub vertex-total-spec : {M : Type 1} → statement M
-vertex-total-spec =
+pub vertex_total_spec : {M : Type 1} → statement M
+vertex_total_spec =
     tie.close
     (tie.spec
     invariant-loop

@@ -4,19 +4,19 @@ use borrow.Author.Rules.{rules}
 use Rattle.telling.proofs.tell_shape.Statement.{statement}
 use Rattle.telling.proofs.tell_shape.Tie as tie
 
-returns : tie.Need-returns
+returns : tie.Need-returns-in-Graph
 returns c =
     let at-kind-number = c.before.before.before.before in
     let told = at-kind-number.before.before.told in
-    rw (told.given.1, at-kind-number.kind-number.ensures) (refl, refl)
+    rw (told.given.1, at-kind-number.kind_number-number.ensures) (refl, refl)
 
-returns-2 : tie.Need-returns-2
+returns-2 : tie.Need-returns-in-Refused
 returns-2 c =
     let told2 = c.before.before.before.told2 in
     rw told2.given.1 (c.number.ensures, refl)
 
-pub tell-shape-spec : {M : Type 1} → statement M
-tell-shape-spec =
+pub tell_shape_spec : {M : Type 1} → statement M
+tell_shape_spec =
     tie.close
     (tie.spec
     (λ c. search rules)

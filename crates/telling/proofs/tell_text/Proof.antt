@@ -4,11 +4,16 @@ use borrow.Author.Rules.{rules}
 use Rattle.telling.proofs.tell_text.Statement.{statement}
 use Rattle.telling.proofs.tell_text.Tie as tie
 
-returns : tie.Need-returns
-returns c = rw c.before.before.told.given.1 (refl, refl)
+returns : tie.Need-returns-in-Written
+returns c = rw c.in-Written.is (refl, refl)
 
-returns-2 : tie.Need-returns-2
-returns-2 c = rw c.before.before.before.told2.given.1 (c.number.ensures, refl)
+returns-2 : tie.Need-returns-in-Refused
+returns-2 c = rw c.in-Refused.is (c.number.ensures, refl)
 
-pub tell-text-spec : {M : Type 1} → statement M
-tell-text-spec = tie.close (tie.spec (λ c. search rules) (λ c. search rules) (λ c κs. search rules) returns returns-2)
+pub tell_text_spec : {M : Type 1} → statement M
+tell_text_spec = tie.close (tie.spec
+    (λ c. search rules)
+    (λ c. search rules)
+    (λ c κs. search rules)
+    returns
+    returns-2)

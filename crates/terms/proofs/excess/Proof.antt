@@ -10,34 +10,34 @@ use borrow.Author.Rules.{rules}
 use Rattle.terms.proofs.excess.Statement.{statement}
 use Rattle.terms.proofs.excess.Tie as tie
 
-half-points-requires : tie.Need-half-points-requires
-half-points-requires c κs = let x = c.element in stored_within x.result x.type-inv x.ensures.1 (omega arith)
+half-points-requires : tie.Need-half_points-worth-requires
+half-points-requires c κs = let x = c.element-own in stored_within x.result x.type_inv x.ensures.1 (omega arith)
 
-subtract-requires : tie.Need-subtract-requires
+subtract-requires : tie.Need-subtract-over-requires
 subtract-requires c κs =
     let start = c.before.before.before in
     let z = start.args.cover in
-    let x = c.before.element in
-    let w = c.half-points in
+    let x = c.element-own in
+    let w = c.half_points-worth in
     let a : Within (2 ^ 61) (stored z) = stored_within z start.ranges.cover.sfits start.requires.0 (omega arith) in
-    let own = worth_is x.result w.result x.type-inv x.ensures w.ensures in
-    let b : Within (2 ^ 61) (stored w.result) = stored_within w.result w.type-inv own.1 (omega arith) in
+    let own = worth_is x.result w.result x.type_inv x.ensures w.ensures in
+    let b : Within (2 ^ 61) (stored w.result) = stored_within w.result w.type_inv own.1 (omega arith) in
     (omega arith, omega arith)
 
 returns : tie.Need-returns
 returns c =
     let start = c.before.before.before.before.before.before in
     let z = start.args.cover in
-    let x = c.before.before.before.before.element in
-    let w = c.before.before.before.half-points in
-    let d = c.before.before.subtract in
-    let r = c.if-chosen in
-    let own = worth_is x.result w.result x.type-inv x.ensures w.ensures in
-    let over = minus z w.result d.result start.ranges.cover.sfits w.type-inv (refl, start.requires.0) own d.ensures in
-    by_mark r.result d.result _ r.ok d.type-inv over (omega arith) r.ensures
+    let x = c.element-own in
+    let w = c.half_points-worth in
+    let d = c.subtract-over in
+    let r = c.if_chosen in
+    let own = worth_is x.result w.result x.type_inv x.ensures w.ensures in
+    let over = minus z w.result d.result start.ranges.cover.sfits w.type_inv (refl, start.requires.0) own d.ensures in
+    by_mark r.result d.result _ r.ok d.type_inv over (omega arith) r.ensures
 
-pub excess-spec : {M : Type 1} → statement M
-excess-spec =
+pub excess_spec : {M : Type 1} → statement M
+excess_spec =
     tie.close
     (tie.spec
     (λ c κs. search rules)

@@ -8,17 +8,21 @@ use Rattle.terms.proofs.Products.{worth_is}
 use Rattle.terms.proofs.is_covered.Statement.{statement}
 use Rattle.terms.proofs.is_covered.Tie as tie
 
-half-points-requires : tie.Need-half-points-requires
-half-points-requires c κs = let x = c.element in stored_within x.result x.type-inv x.ensures.1 (omega arith)
+half-points-requires : tie.Need-half_points-worth-requires
+half-points-requires c κs = let x = c.element-own in stored_within x.result x.type_inv x.ensures.1 (omega arith)
 
 returns : tie.Need-returns
 returns c =
     let start = c.before.before.before in
-    let x = c.before.before.element in
-    let w = c.before.half-points in
+    let x = c.element-own in
+    let w = c.half_points-worth in
     c.at_most.ensures
-    ∙ ap₂ le_z (stored_is w.result w.type-inv ∙ (worth_is x.result w.result x.type-inv x.ensures w.ensures).0)
+    ∙ ap₂ le_z (stored_is w.result w.type_inv ∙ (worth_is x.result w.result x.type_inv x.ensures w.ensures).0)
     (stored_is start.args.cover start.ranges.cover.sfits)
 
-pub is-covered-spec : {M : Type 1} → statement M
-is-covered-spec = tie.close (tie.spec (λ c κs. search rules) half-points-requires (λ c κs. tt) returns)
+pub is_covered_spec : {M : Type 1} → statement M
+is_covered_spec = tie.close (tie.spec
+    (λ c κs. search rules)
+    half-points-requires
+    (λ c κs. tt)
+    returns)

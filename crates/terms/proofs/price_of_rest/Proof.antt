@@ -11,20 +11,20 @@ use Rattle.terms.proofs.price_of_rest.Tie as tie
 
 -- The two products.
 allowed : (c : tie.After-scale) →
-    let args = c.before.args in
+    let args = c.args in
     (stored c.scale.result ≡ pos args.most *ℤ args.price) × Within (2 ^ 47) (stored c.scale.result)
 allowed c =
     let start = c.before in
-    scaled c.scale.result start.args.price start.args.most c.scale.type-inv start.ranges.price.sfits start.requires.0 refl
+    scaled c.scale.result start.args.price start.args.most c.scale.type_inv start.ranges.price.sfits start.requires.0 refl
     (refl, start.requires.2) c.scale.ensures
 
-used : (c : tie.After-scale2) →
-    let args = c.before.before.args in
-    (stored c.scale2.result ≡ pos args.used *ℤ args.price) × Within (2 ^ 47) (stored c.scale2.result)
+used : (c : tie.After-scale-2) →
+    let args = c.args in
+    (stored c.scale-2.result ≡ pos args.used *ℤ args.price) × Within (2 ^ 47) (stored c.scale-2.result)
 used c =
     let start = c.before.before in
-    scaled c.scale2.result start.args.price start.args.used c.scale2.type-inv start.ranges.price.sfits start.requires.1 refl
-    (refl, start.requires.2) c.scale2.ensures
+    scaled c.scale-2.result start.args.price start.args.used c.scale-2.type_inv start.ranges.price.sfits start.requires.1 refl
+    (refl, start.requires.2) c.scale-2.ensures
 
 scale-requires : tie.Need-scale-requires
 scale-requires c κs = scalable c.args.price c.args.most c.ranges.price.sfits c.requires.0 c.requires.2
@@ -41,9 +41,13 @@ returns : tie.Need-returns
 returns c =
     let at-scale2 = c.before in
     let at-scale = at-scale2.before in
-    let args = at-scale.before.args in
-    rested c.subtract.result at-scale.scale.result at-scale2.scale2.result args.price args.most args.used c.subtract.type-inv
+    let args = at-scale.args in
+    rested c.subtract.result at-scale.scale.result at-scale2.scale-2.result args.price args.most args.used c.subtract.type_inv
     (allowed at-scale) (used at-scale2) c.subtract.ensures
 
-pub price-of-rest-spec : {M : Type 1} → statement M
-price-of-rest-spec = tie.close (tie.spec scale-requires scale-requires-2 subtract-requires returns)
+pub price_of_rest_spec : {M : Type 1} → statement M
+price_of_rest_spec = tie.close (tie.spec
+    scale-requires
+    scale-requires-2
+    subtract-requires
+    returns)

@@ -19,19 +19,22 @@ add-requires-2 c κs =
     let u = c.add in
     let w = plus start.args.vertices start.args.odd u.result start.ranges.vertices.sfits start.ranges.odd.sfits (refl, start.requires.0)
     (refl, start.requires.1) u.ensures in (
-      stored_within u.result u.type-inv w.1 (omega arith),
+      stored_within u.result u.type_inv w.1 (omega arith),
       stored_within start.args.own start.ranges.own.sfits start.requires.2 (omega arith),
     )
 
 returns : tie.Need-returns
 returns c =
     let start = c.before.before in
-    let u = c.before.add in
-    let r = c.add2 in
+    let u = c.add in
+    let r = c.add-2 in
     let p = plus start.args.vertices start.args.odd u.result start.ranges.vertices.sfits start.ranges.odd.sfits (refl, start.requires.0)
     (refl, start.requires.1) u.ensures in
-    let w = plus u.result start.args.own r.result u.type-inv start.ranges.own.sfits p (refl, start.requires.2) r.ensures in
-    stored_both r.result r.type-inv w.0 (omega (arith, w.1))
+    let w = plus u.result start.args.own r.result u.type_inv start.ranges.own.sfits p (refl, start.requires.2) r.ensures in
+    stored_both r.result r.type_inv w.0 (omega (arith, w.1))
 
-pub total-parts-spec : {M : Type 1} → statement M
-total-parts-spec = tie.close (tie.spec add-requires add-requires-2 returns)
+pub total_parts_spec : {M : Type 1} → statement M
+total_parts_spec = tie.close (tie.spec
+    add-requires
+    add-requires-2
+    returns)

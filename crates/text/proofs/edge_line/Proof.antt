@@ -10,8 +10,10 @@ use Rattle.text.proofs.edge_line.Tie as tie
 
 returns : tie.Need-returns
 returns c =
-    let a = c.before.before.args in
-    c.edge-line-in.ensures ∙ ap (λ (l : List ℕ). three_words (natural a.rules) (natural a.rules) (integer a.rules) (words l)) (rest_lent a.line.now 0)
+    let a = c.args in
+    c.edge_line_in.ensures ∙ ap (λ (l : List ℕ). three_words (natural a.rules) (natural a.rules) (integer a.rules) (words l)) (rest_lent a.line.now 0)
 
-pub edge-line-spec : {M : Type 1} → statement M
-edge-line-spec = tie.close (tie.spec (λ c κs. search rules) returns)
+pub edge_line_spec : {M : Type 1} → statement M
+edge_line_spec = tie.close (tie.spec
+    (λ c κs. search rules)
+    returns)

@@ -10,59 +10,59 @@ use borrow.Author.Rules.{rules}
 use Rattle.text.proofs.edge_numbers.Statement.{statement}
 use Rattle.text.proofs.edge_numbers.Tie as tie
 
-returns : tie.Need-returns
+returns : tie.Need-returns-in_default
 returns c =
-    let args = c.before.before.before.before.args in
-    first_spoilt args.rules (integer args.rules) args.line.now c.before.before.next-natural.ensures c.enum_told.given.1
+    let args = c.args in
+    first_spoilt args.rules (integer args.rules) args.line.now c.next_natural.ensures c.in_default.is
 
-next-natural-requires-2 : tie.Need-next-natural-requires-2
+next-natural-requires-2 : tie.Need-next_natural-requires-2
 next-natural-requires-2 c κs =
-    let first = c.before.before.before in
-    let args = first.before.before.args in
-    (first_took args.rules (integer args.rules) args.line.now first.next-natural.ensures c.before.row.given.1).inside
+    let first = c.before in
+    let args = first.args in
+    (first_took args.rules (integer args.rules) args.line.now first.next_natural.ensures c.in-Is.is).inside
 
-returns-2 : tie.Need-returns-2
+returns-2 : tie.Need-returns-in_default-next_natural
 returns-2 c =
-    let at_row = c.before.before.before.before in
-    let first = at_row.before.before in
-    let args = first.before.before.args in
-    second_spoilt args.rules (integer args.rules) args.line.now first.next-natural.ensures at_row.row.given.1
-    c.before.before.next-natural2.ensures c.enum-told2.given.1
+    let at_row = c.before.before in
+    let first = at_row.before in
+    let args = first.args in
+    second_spoilt args.rules (integer args.rules) args.line.now first.next_natural.ensures at_row.in-Is.is
+    c.next_natural-2.ensures c.in_default-next_natural.is
 
-last-integer-requires : tie.Need-last-integer-requires
+last-integer-requires : tie.Need-last_integer-requires
 last-integer-requires c κs =
-    let second = c.before.before.before in
-    let at_row = second.before.before in
-    let first = at_row.before.before in
-    let args = first.before.before.args in
-    (second_took args.rules (integer args.rules) args.line.now first.next-natural.ensures at_row.row.given.1
-    second.next-natural2.ensures c.before.column.given.1).inside
+    let second = c.before in
+    let at_row = second.before in
+    let first = at_row.before in
+    let args = first.args in
+    (second_took args.rules (integer args.rules) args.line.now first.next_natural.ensures at_row.in-Is.is
+    second.next_natural-2.ensures c.in-Is-next_natural.is).inside
 
-returns-3 : tie.Need-returns-3
+returns-3 : tie.Need-returns-in_default-last_integer
 returns-3 c =
-    let at_column = c.before.before.before.before in
-    let second = at_column.before.before in
-    let at_row = second.before.before in
-    let first = at_row.before.before in
-    let args = first.before.before.args in
-    third_as args.rules (integer args.rules) args.line.now first.next-natural.ensures at_row.row.given.1
-    second.next-natural2.ensures at_column.column.given.1 none (sym (ap integer_says c.enum-told3.given.1) ∙ c.before.before.last-integer.ensures)
+    let at_column = c.before.before in
+    let second = at_column.before in
+    let at_row = second.before in
+    let first = at_row.before in
+    let args = first.args in
+    third_as args.rules (integer args.rules) args.line.now first.next_natural.ensures at_row.in-Is.is
+    second.next_natural-2.ensures at_column.in-Is-next_natural.is none (sym (ap integer_says c.in_default-last_integer.is) ∙ c.last_integer.ensures)
 
-returns-4 : tie.Need-returns-4
+returns-4 : tie.Need-returns
 returns-4 c =
-    let third = c.before.before.before in
-    let at_column = third.before.before in
-    let second = at_column.before.before in
-    let at_row = second.before.before in
-    let first = at_row.before.before in
-    let args = first.before.before.args in
-    let read = sym (ap integer_says c.before.weight.given.1) ∙ third.last-integer.ensures in
+    let third = c.before in
+    let at_column = third.before in
+    let second = at_column.before in
+    let at_row = second.before in
+    let first = at_row.before in
+    let args = first.args in
+    let read = sym (ap integer_says c.in-Is-last_integer.is) ∙ third.last_integer.ensures in
     rw (to_z-of_z {w = w32} (one-fits args.rules _ _ (sym read)))
-    (third_as args.rules (integer args.rules) args.line.now first.next-natural.ensures at_row.row.given.1
-    second.next-natural2.ensures at_column.column.given.1 (some _) read)
+    (third_as args.rules (integer args.rules) args.line.now first.next_natural.ensures at_row.in-Is.is
+    second.next_natural-2.ensures at_column.in-Is-next_natural.is (some _) read)
 
-pub edge-numbers-spec : {M : Type 1} → statement M
-edge-numbers-spec =
+pub edge_numbers_spec : {M : Type 1} → statement M
+edge_numbers_spec =
     tie.close
     (tie.spec
     (λ c κs. search rules)

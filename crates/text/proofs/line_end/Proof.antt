@@ -10,32 +10,32 @@ use Rattle.text.specs.Cursor.{in_line}
 use Rattle.text.proofs.line_end.Statement.{statement}
 use Rattle.text.proofs.line_end.Tie as tie
 
-abbrev invariant-loop : tie.invariant-loop
+abbrev invariant-loop : tie.invariant-loop-i
 invariant-loop s from i₀ i = Scan in_line s from i
 
-abbrev decreases-loop : tie.decreases-loop
+abbrev decreases-loop : tie.decreases-loop-i
 decreases-loop s from i₀ i = length s - i
 
-loop-holds : tie.Need-loop-init invariant-loop decreases-loop
+loop-holds : tie.Need-loop-i-init invariant-loop decreases-loop
 loop-holds c = (search rules, refl)
 
-returns : tie.Need-returns invariant-loop decreases-loop
+returns : tie.Need-returns-then-s-i-eq10 invariant-loop decreases-loop
 returns c =
-    let loop-test = c.before.before.loop-test in
-    let inv = c.before.before.before.loop.invariant in
-    (scan_stop in_line _ _ _ inv loop-test.true (ap not (eq-eqb _ _ c.if1.true)), search rules)
+    let loop-test = c.loop-i-test in
+    let inv = c.loop-i.invariant in
+    (scan_stop in_line _ _ _ inv loop-test.true (ap not (eq-eqb _ _ c.if-s-i-eq10.true)), search rules)
 
-loop-again : tie.Need-loop-preserved invariant-loop decreases-loop
+loop-again : tie.Need-loop-i-preserved invariant-loop decreases-loop
 loop-again c =
-    let loop-test = c.before.before.loop-test in
-    let inv = c.before.before.before.loop.invariant in
-    scan_more in_line _ _ _ inv loop-test.true (ap not (ne_eqb _ _ c.if1.false))
+    let loop-test = c.loop-i-test in
+    let inv = c.loop-i.invariant in
+    scan_more in_line _ _ _ inv loop-test.true (ap not (ne_eqb _ _ c.if-s-i-eq10.false))
 
-returns-2 : tie.Need-returns-2 invariant-loop decreases-loop
-returns-2 c = (scan_end in_line _ _ _ c.before.loop.invariant c.loop-test.false, search rules)
+returns-2 : tie.Need-returns invariant-loop decreases-loop
+returns-2 c = (scan_end in_line _ _ _ c.loop-i.invariant c.loop-i-test.false, search rules)
 
-pub line-end-spec : {M : Type 1} → statement M
-line-end-spec =
+pub line_end_spec : {M : Type 1} → statement M
+line_end_spec =
     tie.close
     (tie.spec
     invariant-loop

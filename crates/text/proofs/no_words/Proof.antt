@@ -11,8 +11,10 @@ use Rattle.text.proofs.no_words.Tie as tie
 returns : tie.Need-returns
 returns c =
     let start = c.before.before in
-    ap (λ (k : ℕ). eqb k (length start.args.line.now)) c.skip-blanks.ensures.0
+    ap (λ (k : ℕ). eqb k (length start.args.line.now)) c.skip_blanks.ensures.0
     ∙ no_words-is start.args.line.now start.args.from start.requires
 
-pub no-words-spec : {M : Type 1} → statement M
-no-words-spec = tie.close (tie.spec (λ c κs. search rules) returns)
+pub no_words_spec : {M : Type 1} → statement M
+no_words_spec = tie.close (tie.spec
+    (λ c κs. search rules)
+    returns)

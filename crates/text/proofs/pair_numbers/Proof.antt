@@ -9,45 +9,45 @@ use borrow.Author.Rules.{rules}
 use Rattle.text.proofs.pair_numbers.Statement.{statement}
 use Rattle.text.proofs.pair_numbers.Tie as tie
 
-returns : tie.Need-returns
+returns : tie.Need-returns-in_default
 returns c =
-    let next-natural = c.before.before.next-natural in
-    let args = c.before.before.before.before.args in
+    let next-natural = c.next_natural in
+    let args = c.args in
     sym
     (two_bad (natural args.rules) (natural args.rules) _
-    (spoilt (natural args.rules) args.line.now (record { at = 0; line = 0 }) (sym (ap next_natural_says c.enum_told.given.1) ∙ next-natural.ensures)))
+    (spoilt (natural args.rules) args.line.now (record { at = 0; line = 0 }) (sym (ap next_natural_says c.in_default.is) ∙ next-natural.ensures)))
 
-last-natural-requires : tie.Need-last-natural-requires
+last-natural-requires : tie.Need-last_natural-requires
 last-natural-requires c κs =
-    let at-next-natural = c.before.before.before in
-    let args = at-next-natural.before.before.args in
+    let at-next-natural = c.before in
+    let args = at-next-natural.args in
     (took (natural args.rules) args.line.now (record { at = 0; line = 0 }) (natural-nil args.rules) (search rules) _ _
-    (sym (ap next_natural_says c.before.a.given.1) ∙ at-next-natural.next-natural.ensures)).inside
+    (sym (ap next_natural_says c.in-Is.is) ∙ at-next-natural.next_natural.ensures)).inside
 
-returns-2 : tie.Need-returns-2
+returns-2 : tie.Need-returns-in_default-last_natural
 returns-2 c =
-    let last-natural = c.before.before.last-natural in
-    let at_a = c.before.before.before.before in
-    let at-next-natural = at_a.before.before in
-    let args = at-next-natural.before.before.args in
+    let last-natural = c.last_natural in
+    let at_a = c.before.before in
+    let at-next-natural = at_a.before in
+    let args = at-next-natural.args in
     two_last (natural args.rules) (natural args.rules) args.line.now _ _
     (took (natural args.rules) args.line.now (record { at = 0; line = 0 }) (natural-nil args.rules) (search rules) _ _
-    (sym (ap next_natural_says at_a.a.given.1) ∙ at-next-natural.next-natural.ensures)) none
-    (sym (ap natural_says c.enum-told2.given.1) ∙ last-natural.ensures)
+    (sym (ap next_natural_says at_a.in-Is.is) ∙ at-next-natural.next_natural.ensures)) none
+    (sym (ap natural_says c.in_default-last_natural.is) ∙ last-natural.ensures)
 
-returns-3 : tie.Need-returns-3
+returns-3 : tie.Need-returns
 returns-3 c =
-    let at-last-natural = c.before.before.before in
-    let at_a = at-last-natural.before.before in
-    let at-next-natural = at_a.before.before in
-    let args = at-next-natural.before.before.args in
+    let at-last-natural = c.before in
+    let at_a = at-last-natural.before in
+    let at-next-natural = at_a.before in
+    let args = at-next-natural.args in
     two_last (natural args.rules) (natural args.rules) args.line.now _ _
     (took (natural args.rules) args.line.now (record { at = 0; line = 0 }) (natural-nil args.rules) (search rules) _ _
-    (sym (ap next_natural_says at_a.a.given.1) ∙ at-next-natural.next-natural.ensures)) (some _)
-    (sym (ap natural_says c.before.b.given.1) ∙ at-last-natural.last-natural.ensures)
+    (sym (ap next_natural_says at_a.in-Is.is) ∙ at-next-natural.next_natural.ensures)) (some _)
+    (sym (ap natural_says c.in-Is-last_natural.is) ∙ at-last-natural.last_natural.ensures)
 
-pub pair-numbers-spec : {M : Type 1} → statement M
-pair-numbers-spec =
+pub pair_numbers_spec : {M : Type 1} → statement M
+pair_numbers_spec =
     tie.close
     (tie.spec
     (λ c κs. search rules)

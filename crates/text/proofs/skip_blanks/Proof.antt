@@ -1,7 +1,7 @@
 -- `text::skip_blanks` meets its contract. The measure is what is left of the slice.
 use Prim.Native.Nat.{◌-◌}
 use mathlib.Core.Path.{refl, sym, ◌∙◌}
-use borrow.Author.Tests.{not_true, not-false}
+use borrow.Author.Tests.{not-true, not-false}
 use borrow.Author.Rules.{rules}
 use lib.ListN.{length}
 use Rattle.text.proofs.Scans.{Scan, scan_more, scan_stop, scan_end}
@@ -9,32 +9,32 @@ use Rattle.layout.specs.Text.{blank}
 use Rattle.text.proofs.skip_blanks.Statement.{statement}
 use Rattle.text.proofs.skip_blanks.Tie as tie
 
-abbrev invariant-loop : tie.invariant-loop
+abbrev invariant-loop : tie.invariant-loop-i
 invariant-loop s from i₀ i = Scan blank s from i
 
-abbrev decreases-loop : tie.decreases-loop
+abbrev decreases-loop : tie.decreases-loop-i
 decreases-loop s from i₀ i = length s - i
 
-loop-holds : tie.Need-loop-init invariant-loop decreases-loop
+loop-holds : tie.Need-loop-i-init invariant-loop decreases-loop
 loop-holds c = (search rules, refl)
 
-returns : tie.Need-returns invariant-loop decreases-loop
+returns : tie.Need-returns-then-not-is_blank invariant-loop decreases-loop
 returns c =
     let at-loop-test = c.before.before.before in
-    let inv = at-loop-test.before.loop.invariant in
-    (scan_stop blank _ _ _ inv at-loop-test.loop-test.true (sym c.before.is-blank.ensures ∙ not_true _ c.if1.true), search rules)
+    let inv = at-loop-test.loop-i.invariant in
+    (scan_stop blank _ _ _ inv at-loop-test.loop-i-test.true (sym c.is_blank.ensures ∙ not-true _ c.if-not-is_blank.true), search rules)
 
-loop-again : tie.Need-loop-preserved invariant-loop decreases-loop
+loop-again : tie.Need-loop-i-preserved invariant-loop decreases-loop
 loop-again c =
     let at-loop-test = c.before.before.before in
-    let inv = at-loop-test.before.loop.invariant in
-    scan_more blank _ _ _ inv at-loop-test.loop-test.true (sym c.before.is-blank.ensures ∙ not-false _ c.if1.false)
+    let inv = at-loop-test.loop-i.invariant in
+    scan_more blank _ _ _ inv at-loop-test.loop-i-test.true (sym c.is_blank.ensures ∙ not-false _ c.if-not-is_blank.false)
 
-returns-2 : tie.Need-returns-2 invariant-loop decreases-loop
-returns-2 c = (scan_end blank _ _ _ c.before.loop.invariant c.loop-test.false, search rules)
+returns-2 : tie.Need-returns invariant-loop decreases-loop
+returns-2 c = (scan_end blank _ _ _ c.loop-i.invariant c.loop-i-test.false, search rules)
 
-pub skip-blanks-spec : {M : Type 1} → statement M
-skip-blanks-spec =
+pub skip_blanks_spec : {M : Type 1} → statement M
+skip_blanks_spec =
     tie.close
     (tie.spec
     invariant-loop

@@ -5,13 +5,16 @@ use borrow.Author.Rules.{rules}
 use Rattle.text.proofs.starts_with.Statement.{statement}
 use Rattle.text.proofs.starts_with.Tie as tie
 
-returns : tie.Need-returns
-returns c = sym (starts-empty _ c.before.args.line.now c.if1.true)
+returns : tie.Need-returns-then-line-eq0
+returns c = sym (starts-empty _ c.args.line.now c.if-line-eq0.true)
 
-returns-2 : tie.Need-returns-2
+returns-2 : tie.Need-returns
 returns-2 c =
-    let args = c.before.before.args in
-    starts-at _ args.line.now c.before.if1.false
+    let args = c.args in
+    starts-at _ args.line.now c.if-line-eq0.false
 
-pub starts-with-spec : {M : Type 1} → statement M
-starts-with-spec = tie.close (tie.spec returns (λ c. search rules) returns-2)
+pub starts_with_spec : {M : Type 1} → statement M
+starts_with_spec = tie.close (tie.spec
+    returns
+    (λ c. search rules)
+    returns-2)

@@ -8,58 +8,58 @@ use borrow.Author.Rules.{rules}
 use Rattle.text.proofs.three_naturals.Statement.{statement}
 use Rattle.text.proofs.three_naturals.Tie as tie
 
-returns : tie.Need-returns
+returns : tie.Need-returns-in_default
 returns c =
-    let args = c.before.before.before.before.args in
-    first_spoilt args.rules (natural args.rules) args.line.now c.before.before.next-natural.ensures c.enum_told.given.1
+    let args = c.args in
+    first_spoilt args.rules (natural args.rules) args.line.now c.next_natural.ensures c.in_default.is
 
-next-natural-requires-2 : tie.Need-next-natural-requires-2
+next-natural-requires-2 : tie.Need-next_natural-requires-2
 next-natural-requires-2 c κs =
-    let first = c.before.before.before in
-    let args = first.before.before.args in
-    (first_took args.rules (natural args.rules) args.line.now first.next-natural.ensures c.before.a.given.1).inside
+    let first = c.before in
+    let args = first.args in
+    (first_took args.rules (natural args.rules) args.line.now first.next_natural.ensures c.in-Is.is).inside
 
-returns-2 : tie.Need-returns-2
+returns-2 : tie.Need-returns-in_default-next_natural
 returns-2 c =
-    let at_a = c.before.before.before.before in
-    let first = at_a.before.before in
-    let args = first.before.before.args in
-    second_spoilt args.rules (natural args.rules) args.line.now first.next-natural.ensures at_a.a.given.1
-    c.before.before.next-natural2.ensures c.enum-told2.given.1
+    let at_a = c.before.before in
+    let first = at_a.before in
+    let args = first.args in
+    second_spoilt args.rules (natural args.rules) args.line.now first.next_natural.ensures at_a.in-Is.is
+    c.next_natural-2.ensures c.in_default-next_natural.is
 
-last-natural-requires : tie.Need-last-natural-requires
+last-natural-requires : tie.Need-last_natural-requires
 last-natural-requires c κs =
-    let second = c.before.before.before in
-    let at_a = second.before.before in
-    let first = at_a.before.before in
-    let args = first.before.before.args in
-    (second_took args.rules (natural args.rules) args.line.now first.next-natural.ensures at_a.a.given.1
-    second.next-natural2.ensures c.before.b.given.1).inside
+    let second = c.before in
+    let at_a = second.before in
+    let first = at_a.before in
+    let args = first.args in
+    (second_took args.rules (natural args.rules) args.line.now first.next_natural.ensures at_a.in-Is.is
+    second.next_natural-2.ensures c.in-Is-next_natural.is).inside
 
-returns-3 : tie.Need-returns-3
+returns-3 : tie.Need-returns-in_default-last_natural
 returns-3 c =
-    let at_b = c.before.before.before.before in
-    let second = at_b.before.before in
-    let at_a = second.before.before in
-    let first = at_a.before.before in
-    let args = first.before.before.args in
-    third_as args.rules (natural args.rules) args.line.now first.next-natural.ensures at_a.a.given.1
-    second.next-natural2.ensures at_b.b.given.1 none (sym (ap natural_says c.enum-told3.given.1) ∙ c.before.before.last-natural.ensures)
+    let at_b = c.before.before in
+    let second = at_b.before in
+    let at_a = second.before in
+    let first = at_a.before in
+    let args = first.args in
+    third_as args.rules (natural args.rules) args.line.now first.next_natural.ensures at_a.in-Is.is
+    second.next_natural-2.ensures at_b.in-Is-next_natural.is none (sym (ap natural_says c.in_default-last_natural.is) ∙ c.last_natural.ensures)
 
-returns-4 : tie.Need-returns-4
+returns-4 : tie.Need-returns
 returns-4 c =
-    let third = c.before.before.before in
-    let at_b = third.before.before in
-    let second = at_b.before.before in
-    let at_a = second.before.before in
-    let first = at_a.before.before in
-    let args = first.before.before.args in
-    let read = sym (ap natural_says c.before.c.given.1) ∙ third.last-natural.ensures in
-    third_as args.rules (natural args.rules) args.line.now first.next-natural.ensures at_a.a.given.1
-    second.next-natural2.ensures at_b.b.given.1 (some _) read
+    let third = c.before in
+    let at_b = third.before in
+    let second = at_b.before in
+    let at_a = second.before in
+    let first = at_a.before in
+    let args = first.args in
+    let read = sym (ap natural_says c.in-Is-last_natural.is) ∙ third.last_natural.ensures in
+    third_as args.rules (natural args.rules) args.line.now first.next_natural.ensures at_a.in-Is.is
+    second.next_natural-2.ensures at_b.in-Is-next_natural.is (some _) read
 
-pub three-naturals-spec : {M : Type 1} → statement M
-three-naturals-spec =
+pub three_naturals_spec : {M : Type 1} → statement M
+three_naturals_spec =
     tie.close
     (tie.spec
     (λ c κs. search rules)

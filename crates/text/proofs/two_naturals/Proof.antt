@@ -10,8 +10,10 @@ use Rattle.text.proofs.two_naturals.Tie as tie
 
 returns : tie.Need-returns
 returns c =
-    let a = c.before.before.args in
-    c.two-naturals-in.ensures ∙ ap (λ (l : List ℕ). two_words (natural a.rules) (natural a.rules) (words l)) (rest_lent a.line.now 0)
+    let a = c.args in
+    c.two_naturals_in.ensures ∙ ap (λ (l : List ℕ). two_words (natural a.rules) (natural a.rules) (words l)) (rest_lent a.line.now 0)
 
-pub two-naturals-spec : {M : Type 1} → statement M
-two-naturals-spec = tie.close (tie.spec (λ c κs. search rules) returns)
+pub two_naturals_spec : {M : Type 1} → statement M
+two_naturals_spec = tie.close (tie.spec
+    (λ c κs. search rules)
+    returns)

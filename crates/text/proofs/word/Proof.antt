@@ -6,10 +6,15 @@ use Rattle.text.proofs.word.Tie as tie
 
 returns : tie.Need-returns
 returns c =
-    let word-end = c.before.word-end in
+    let word-end = c.word_end-end in
     let start = c.before.before.before in
     (word_part start.args.line.now _ _ start.requires word-end.ensures.0, word_inside start.args.line.now _ _ start.requires word-end.ensures.0)
 
-pub word-spec : {M : Type 1} → statement M
-word-spec =
-    tie.close (tie.spec (λ c κs. search rules) (λ c. search rules) (λ c. search rules) (λ c. search rules) returns)
+pub word_spec : {M : Type 1} → statement M
+word_spec =
+    tie.close (tie.spec
+    (λ c κs. search rules)
+    (λ c. search rules)
+    (λ c. search rules)
+    (λ c. search rules)
+    returns)

@@ -10,40 +10,40 @@ use Rattle.tidier.proofs.put_tidy.Statement.{statement}
 use Rattle.tidier.proofs.put_tidy.Tie as tie
 
 -- When the edges have been sorted: the start, and the order that came back.
-abbrev begun : tie.After-sort-edges → tie.Start
+abbrev begun : tie.After-sort_edges → tie.Start
 begun c = c.before.before.before.before.before.before
 
 abbrev no_order : List ℕ
 no_order = replicate 1024 0
 
-back : (c : tie.After-sort-edges) → PartBack (begun c).args.s.edges no_order c.sort-edges.new.1.1.1.1.0
-back c = came_back (begun c).args.s.edges no_order (begun c).requires.0.sound.sizes.few c.sort-edges.auto.1.1.1.1.0
+back : (c : tie.After-sort_edges) → PartBack (begun c).args.s.edges no_order c.sort_edges.new.1.1.1.1.0
+back c = came_back (begun c).args.s.edges no_order (begun c).requires.0.sound.sizes.few c.sort_edges.auto.1.1.1.1.0
 
-slice-aggregate-sort-edges : tie.Need-slice-aggregate-sort-edges
-slice-aggregate-sort-edges c = zeros-lent 0 1024 c.before.before.before.before.before.requires.0.sound.sizes.few
+slice-aggregate-sort-edges : tie.Need-slice_bounds-sort_edges-end
+slice-aggregate-sort-edges c = zeros-lent 0 1024 c.requires.0.sound.sizes.few
 
-sort-edges-requires : tie.Need-sort-edges-requires
-sort-edges-requires c κs = let P = c.before.before.before.before.before.requires.0 in (P, sym (zeros-lent 0 1024 P.sound.sizes.few))
+sort-edges-requires : tie.Need-sort_edges-requires
+sort-edges-requires c κs = let P = c.requires.0 in (P, sym (zeros-lent 0 1024 P.sound.sizes.few))
 
-array-share-prefix-order : tie.Need-array-share-prefix-order
+array-share-prefix-order : tie.Need-slice_bounds-order-end-2
 array-share-prefix-order c = (back c.before.before).room
 
-slice-aggregate-put-graph : tie.Need-slice-aggregate-put-graph
+slice-aggregate-put-graph : tie.Need-slice_bounds-put_graph-end
 slice-aggregate-put-graph c = (back c.before.before.before).long
 
-put-graph-requires : tie.Need-put-graph-requires
+put-graph-requires : tie.Need-put_graph-requires
 put-graph-requires c κs =
     let t = c.before.before.before in
     let s = begun t in
-    (s.pre.1, tidy_ordered s.pre.0 ((back t).same ∙ t.sort-edges.ensures))
+    (s.requires.1, tidy_ordered s.requires.0 ((back t).same ∙ t.sort_edges.ensures))
 
 returns : tie.Need-returns
 returns c =
     let t = c.before.before.before.before.before.before in
-    tidy_written (begun t).requires.0 ((back t).same ∙ t.sort-edges.ensures) c.before.before.put-graph.ensures
+    tidy_written (begun t).requires.0 ((back t).same ∙ t.sort_edges.ensures) c.put_graph.ensures
 
-pub put-tidy-spec : {M : Type 1} → statement M
-put-tidy-spec =
+pub put_tidy_spec : {M : Type 1} → statement M
+put_tidy_spec =
     tie.close
     (tie.spec
     (λ c. search rules)

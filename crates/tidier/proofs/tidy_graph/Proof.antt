@@ -19,31 +19,31 @@ graph s = graph_of s.args.s s.args.row.now s.args.column.now s.args.weight.now
 abbrev room : tie.Start → ℕ
 room s = length s.args.out.now
 
-returns : tie.Need-returns
+returns : tie.Need-returns-in-Refused
 returns c =
-    let s = c.before.before.before.before.before.before.before.before.before.before.before in
-    let w = refused (graph s) (room s) c.before.before.before.before.before.before.before.check-lent.ensures c.before.before.before.before.before.r.given.1 in
-    (sym (ap (λ (o : Outcome (List ℕ)). told (reported length o)) w), c.before.before.clear-bytes.ensures ∙ sym (ap (output (room s) 0 (λ t. t)) w))
+    let s = c.before.before.before.before.before.before.before.before.before in
+    let w = refused (graph s) (room s) c.check_lent.ensures c.in-Refused.is in
+    (sym (ap (λ (o : Outcome (List ℕ)). told (reported length o)) w), c.clear_bytes.ensures ∙ sym (ap (output (room s) 0 (λ t. t)) w))
 
-put-tidy-requires : tie.Need-put-tidy-requires
+put-tidy-requires : tie.Need-put_tidy-length-requires
 put-tidy-requires c κs =
-    let s = c.before.before.before.before.before.before.before in
-    let says = c.before.before.before.check-lent.ensures in
-    let is = c.before.enum_told.given.1 in
+    let s = c.before.before.before.before.before.before in
+    let says = c.check_lent.ensures in
+    let is = c.in_default.is in
     (passed (graph s) (room s) says is, size (graph s) (room s) says is)
 
-returns-2 : tie.Need-returns-2
+returns-2 : tie.Need-returns
 returns-2 c =
-    let s = c.before.before.before.before.before.before.before.before.before.before in
-    let says = c.before.before.before.before.before.before.check-lent.ensures in
-    let is = c.before.before.before.before.enum_told.given.1 in
+    let s = c.before.before.before.before.before.before.before.before.before in
+    let says = c.check_lent.ensures in
+    let is = c.in_default.is in
     let text = yielded (graph s) (room s) says is in
     let long = size (graph s) (room s) says is in
-    let w = c.before.before.put-tidy.ensures in
+    let w = c.put_tidy-length.ensures in
     (answered text long _ (TextAnswer.Written _) w, filled_in text long _ (TextAnswer.Written _) w)
 
-pub tidy-graph-spec : {M : Type 1} → statement M
-tidy-graph-spec =
+pub tidy_graph_spec : {M : Type 1} → statement M
+tidy_graph_spec =
     tie.close
     (tie.spec
     (λ c κs. search rules)

@@ -10,35 +10,35 @@ use Rattle.graph.specs.Subgraph.{mark_at}
 use Rattle.writer.proofs.count_chosen.Statement.{statement}
 use Rattle.writer.proofs.count_chosen.Tie as tie
 
-abbrev invariant-loop : tie.invariant-loop
+abbrev invariant-loop : tie.invariant-loop-i
 invariant-loop chosen count₀ i₀ count i = (i ≤ length chosen) × (count ≡ sum i (mark_at chosen)) × (count ≤ 255 * i)
 
-abbrev decreases-loop : tie.decreases-loop
+abbrev decreases-loop : tie.decreases-loop-i
 decreases-loop chosen count₀ i₀ count i = length chosen - i
 
-loop-holds : tie.Need-loop-init invariant-loop decreases-loop
+loop-holds : tie.Need-loop-i-init invariant-loop decreases-loop
 loop-holds c = (omega arith, refl, omega arith)
 
-cast-count : tie.Need-overflow-cast-count invariant-loop decreases-loop
-cast-count c = omega (arith, c.shared-slice-known.given c.before.before.loop.i)
+cast-count : tie.Need-overflow_cast-count invariant-loop decreases-loop
+cast-count c = omega (arith, c.shared_slice_known-1.given c.loop-i.i)
 
-add-count : tie.Need-overflow-add-count invariant-loop decreases-loop
-add-count c = omega (arith, c.shared-slice-known.given c.before.before.loop.i)
+add-count : tie.Need-overflow_add-count invariant-loop decreases-loop
+add-count c = omega (arith, c.shared_slice_known-1.given c.loop-i.i)
 
-loop-again : tie.Need-loop-preserved invariant-loop decreases-loop
+loop-again : tie.Need-loop-i-preserved invariant-loop decreases-loop
 loop-again c = (
   omega arith,
-  omega (arith, sum-next c.before.before.loop.i (mark_at c.before.before.before.args.chosen.now), c.before.before.loop.invariant.1),
-  omega (arith, c.shared-slice-known.given c.before.before.loop.i),
+  omega (arith, sum-next c.loop-i.i (mark_at c.args.chosen.now), c.loop-i.invariant.1),
+  omega (arith, c.shared_slice_known-1.given c.loop-i.i),
 )
 
 returns : tie.Need-returns invariant-loop decreases-loop
 returns c =
-    let e : c.before.loop.i ≡ length c.before.before.args.chosen.now = omega arith in
-    c.before.loop.invariant.1 ∙ ap (λ (k : ℕ). sum k (mark_at c.before.before.args.chosen.now)) e
+    let e : c.loop-i.i ≡ length c.args.chosen.now = omega arith in
+    c.loop-i.invariant.1 ∙ ap (λ (k : ℕ). sum k (mark_at c.args.chosen.now)) e
 
-pub count-chosen-spec : {M : Type 1} → statement M
-count-chosen-spec =
+pub count_chosen_spec : {M : Type 1} → statement M
+count_chosen_spec =
     tie.close
     (tie.spec
     invariant-loop

@@ -7,29 +7,29 @@ use Rattle.writer.proofs.Put.{Copying, copying_starts, copying_more, copying_end
 use Rattle.writer.proofs.put_bytes.Statement.{statement}
 use Rattle.writer.proofs.put_bytes.Tie as tie
 
-abbrev invariant-loop : tie.invariant-loop
+abbrev invariant-loop : tie.invariant-loop-i
 invariant-loop out₀ at b i₀ out i = Copying out₀ at b out i
 
-abbrev decreases-loop : tie.decreases-loop
+abbrev decreases-loop : tie.decreases-loop-i
 decreases-loop out₀ at b i₀ out i = length b - i
 
-loop-holds : tie.Need-loop-init invariant-loop decreases-loop
+loop-holds : tie.Need-loop-i-init invariant-loop decreases-loop
 loop-holds c = copying_starts _ _ _
 
-slice-write-out : tie.Need-slice-write-out invariant-loop decreases-loop
-slice-write-out c = omega (arith, c.before.before.loop.invariant.long)
+slice-write-out : tie.Need-bounds-out-at invariant-loop decreases-loop
+slice-write-out c = omega (arith, c.loop-i.invariant.long)
 
-loop-again : tie.Need-loop-preserved invariant-loop decreases-loop
-loop-again c = copying_more c.before.before.loop.invariant c.before.before.before.requires c.before.loop-test.true (simp length-set c.before.before.loop.invariant.long)
+loop-again : tie.Need-loop-i-preserved invariant-loop decreases-loop
+loop-again c = copying_more c.loop-i.invariant c.requires c.loop-i-test.true (simp length-set c.loop-i.invariant.long)
 
-same_length : tie.Need-same-length invariant-loop decreases-loop
-same_length c = c.before.loop.invariant.long
+same_length : tie.Need-shape_of-out invariant-loop decreases-loop
+same_length c = c.loop-i.invariant.long
 
 returns : tie.Need-returns invariant-loop decreases-loop
-returns c = copying_ends c.before.loop.invariant c.before.before.requires c.loop-test.false
+returns c = copying_ends c.loop-i.invariant c.requires c.loop-i-test.false
 
-pub put-bytes-spec : {M : Type 1} → statement M
-put-bytes-spec =
+pub put_bytes_spec : {M : Type 1} → statement M
+put_bytes_spec =
     tie.close
     (tie.spec
     invariant-loop

@@ -4,28 +4,28 @@ use Rattle.writer.proofs.Lines.{header-put}
 use Rattle.writer.proofs.put_header.Statement.{statement}
 use Rattle.writer.proofs.put_header.Tie as tie
 
-returns : tie.Need-returns
+returns : tie.Need-returns-in-Bipartite
 returns c =
     let b = c.before.before.before.before.before in
-    header-put _ _ b.before.before.enum_told.given.1 b.enum-told2.given.1 c.before.before.put-bytes.ensures
+    header-put _ _ b.in-Integer.is b.in-Bipartite.is c.put_bytes.ensures
 
-returns-2 : tie.Need-returns-2
+returns-2 : tie.Need-returns-in-General
 returns-2 c =
     let b = c.before.before.before.before.before in
-    header-put _ _ b.before.before.enum_told.given.1 b.enum-told3.given.1 c.before.before.put-bytes2.ensures
+    header-put _ _ b.in-Integer.is b.in-General.is c.put_bytes-in-General.ensures
 
-returns-3 : tie.Need-returns-3
+returns-3 : tie.Need-returns-in-Bipartite-kind
 returns-3 c =
     let b = c.before.before.before.before.before in
-    header-put _ _ b.before.before.enum-told4.given.1 b.enum-told5.given.1 c.before.before.put-bytes3.ensures
+    header-put _ _ b.in-Pattern.is b.in-Bipartite-kind.is c.put_bytes-in-Bipartite-kind.ensures
 
-returns-4 : tie.Need-returns-4
+returns-4 : tie.Need-returns-in-General-kind
 returns-4 c =
     let b = c.before.before.before.before.before in
-    header-put _ _ b.before.before.enum-told4.given.1 b.enum-told6.given.1 c.before.before.put-bytes4.ensures
+    header-put _ _ b.in-Pattern.is b.in-General-kind.is c.put_bytes-in-General-kind.ensures
 
-pub put-header-spec : {M : Type 1} → statement M
-put-header-spec =
+pub put_header_spec : {M : Type 1} → statement M
+put_header_spec =
     tie.close
     (tie.spec
     (λ c. search rules)

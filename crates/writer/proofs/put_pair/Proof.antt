@@ -9,63 +9,63 @@ use Rattle.writer.proofs.put_pair.Statement.{statement}
 use Rattle.writer.proofs.put_pair.Tie as tie
 
 -- After the first number, and after the second.
-abbrev start1 : tie.After-put-number → tie.Start
+abbrev start1 : tie.After-put_number → tie.Start
 start1 c = c.before.before.before
 
-first : (c : tie.After-put-number) →
+first : (c : tie.After-put_number) →
     let a = (start1 c).args in
-    Number a.out.now a.at a.m (put_mid a.at (length a.out.now - a.at) a.out.now c.put-number.new.0) c.put-number.result
+    Number a.out.now a.at a.m (put_mid a.at (length a.out.now - a.at) a.out.now c.put_number.new.0) c.put_number.result
 first c =
     let s = start1 c in
-    number s.args.out.now s.args.at s.args.m (omega (arith, s.pre)) s.fits.m.fits c.put-number.ensures
+    number s.args.out.now s.args.at s.args.m (omega (arith, s.requires)) s.fits.m.fits c.put_number.ensures
 
-abbrev after1 : tie.After-put-number2 → tie.After-put-number
+abbrev after1 : tie.After-put_number-2 → tie.After-put_number
 after1 c = c.before.before.before.before
 
-second : (c : tie.After-put-number2) →
+second : (c : tie.After-put_number-2) →
     let a = (start1 (after1 c)).args in
-    let k = (after1 c).put-number.result in
-    let l = set (put_mid a.at (length a.out.now - a.at) a.out.now (after1 c).put-number.new.0) (a.at + k) 32 in
-    Pair a.out.now a.at a.m a.n (put_mid (a.at + k + 1) (length l - (a.at + k + 1)) l c.put-number2.new.0) (a.at + k + 1 + c.put-number2.result)
+    let k = (after1 c).put_number.result in
+    let l = set (put_mid a.at (length a.out.now - a.at) a.out.now (after1 c).put_number.new.0) (a.at + k) 32 in
+    Pair a.out.now a.at a.m a.n (put_mid (a.at + k + 1) (length l - (a.at + k + 1)) l c.put_number-2.new.0) (a.at + k + 1 + c.put_number-2.result)
 second c =
     let s = start1 (after1 c) in
-    pair s.pre s.fits.m.fits s.fits.n.fits (first (after1 c)) c.put-number2.ensures
+    pair s.requires s.fits.m.fits s.fits.n.fits (first (after1 c)) c.put_number-2.ensures
 
-add_a : tie.Need-overflow-add-a
-add_a c = let s = start1 c.before.before in omega (arith, first c.before.before, s.pre, s.good.0.0)
+add_a : tie.Need-overflow_add-a
+add_a c = let s = start1 c.before.before in omega (arith, first c.before.before, s.requires, s.good.0.0)
 
-slice-write-out : tie.Need-slice-write-out
+slice-write-out : tie.Need-bounds-out-a
 slice-write-out c = omega (arith, first c.before.before, (start1 c.before.before).requires)
 
-add-b : tie.Need-overflow-add-b
-add-b c = let s = start1 c.before.before in omega (arith, first c.before.before, s.pre, s.good.0.0)
+add-b : tie.Need-overflow_add-b
+add-b c = let s = start1 c.before.before in omega (arith, first c.before.before, s.requires, s.good.0.0)
 
-sub-put-number-2 : tie.Need-overflow-sub-put-number-2
+sub-put-number-2 : tie.Need-slice_bounds-put_number-count-2
 sub-put-number-2 c = omega (arith, first c.before.before, (start1 c.before.before).requires)
 
-part-put-number-start-2 : tie.Need-slice-bounds-put-number-start-2
+part-put-number-start-2 : tie.Need-slice_bounds-put_number-start-2
 part-put-number-start-2 c = omega (arith, first c.before.before, (start1 c.before.before).requires)
 
-put-number-requires-2 : tie.Need-put-number-requires-2
+put-number-requires-2 : tie.Need-put_number-requires-2
 put-number-requires-2 c κs = number_room (first c.before.before.before) (omega (arith, (start1 c.before.before.before).requires))
 
-add-e : tie.Need-overflow-add-e
+add-e : tie.Need-overflow_add-e
 add-e c = omega (arith, second c.before.before, (start1 (after1 c.before.before)).well-formed.0.0)
 
-slice-write-out-2 : tie.Need-slice-write-out-2
+slice-write-out-2 : tie.Need-bounds-out-e
 slice-write-out-2 c = omega (arith, second c.before.before)
 
-add-result : tie.Need-overflow-add-result
+add-result : tie.Need-overflow_add-result
 add-result c = omega (arith, second c.before.before, (start1 (after1 c.before.before)).well-formed.0.0)
 
-same_length : tie.Need-same-length
+same_length : tie.Need-shape_of-out
 same_length c = rw length-set (second c.before.before).long
 
 returns : tie.Need-returns
 returns c = (second c.before.before).puts
 
-pub put-pair-spec : {M : Type 1} → statement M
-put-pair-spec =
+pub put_pair_spec : {M : Type 1} → statement M
+put_pair_spec =
     tie.close
     (tie.spec
     (λ c. search rules)

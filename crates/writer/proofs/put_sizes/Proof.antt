@@ -10,41 +10,41 @@ use Rattle.writer.proofs.put_sizes.Statement.{statement}
 use Rattle.writer.proofs.put_sizes.Tie as tie
 
 -- After the first number.
-abbrev start1 : tie.After-put-number → tie.Start
+abbrev start1 : tie.After-put_number → tie.Start
 start1 c = c.before.before.before
 
-first : (c : tie.After-put-number) →
+first : (c : tie.After-put_number) →
     let a = (start1 c).args in
-    Number a.out.now a.at a.rows (put_mid a.at (length a.out.now - a.at) a.out.now c.put-number.new.0) c.put-number.result
+    Number a.out.now a.at a.rows (put_mid a.at (length a.out.now - a.at) a.out.now c.put_number.new.0) c.put_number.result
 first c =
     let s = start1 c in
-    number s.args.out.now s.args.at s.args.rows (omega (arith, s.pre)) s.fits.rows.fits c.put-number.ensures
+    number s.args.out.now s.args.at s.args.rows (omega (arith, s.requires)) s.fits.rows.fits c.put_number.ensures
 
-add_a : tie.Need-overflow-add-a
-add_a c = let s = start1 c.before.before in omega (arith, first c.before.before, s.pre, s.good.0.0)
+add_a : tie.Need-overflow_add-a
+add_a c = let s = start1 c.before.before in omega (arith, first c.before.before, s.requires, s.good.0.0)
 
-slice-write-out : tie.Need-slice-write-out
+slice-write-out : tie.Need-bounds-out-a
 slice-write-out c = omega (arith, first c.before.before, (start1 c.before.before).requires)
 
-add-put-pair : tie.Need-overflow-add-put-pair
-add-put-pair c = let s = start1 c.before.before.before in omega (arith, first c.before.before.before, s.pre, s.good.0.0)
+add-put-pair : tie.Need-overflow_add-a-2
+add-put-pair c = let s = start1 c.before.before.before in omega (arith, first c.before.before.before, s.requires, s.good.0.0)
 
-put-pair-requires : tie.Need-put-pair-requires
+put-pair-requires : tie.Need-put_pair-requires
 put-pair-requires c κs = omega (arith, first c.before.before.before, (start1 c.before.before.before).requires)
 
-same_length : tie.Need-same-length
+same_length : tie.Need-shape_of-out
 same_length c =
     let after1 = c.before.before.before.before.before.before in
-    c.before.before.put-pair.auto.0 ∙ (first after1).blanked
+    c.put_pair.auto.0 ∙ (first after1).blanked
 
 returns : tie.Need-returns
 returns c =
     let after1 = c.before.before.before.before.before.before in
     let s = start1 after1 in
-    sizes_put s.pre s.fits.rows.fits s.fits.columns.fits s.fits.count.fits (first after1).puts c.before.before.put-pair.ensures
+    sizes_put s.requires s.fits.rows.fits s.fits.columns.fits s.fits.count.fits (first after1).puts c.put_pair.ensures
 
-pub put-sizes-spec : {M : Type 1} → statement M
-put-sizes-spec =
+pub put_sizes_spec : {M : Type 1} → statement M
+put_sizes_spec =
     tie.close
     (tie.spec
     (λ c. search rules)

@@ -13,55 +13,55 @@ use Rattle.from_dimacs.proofs.output.from_dimacs_output.Statement.{statement}
 use Rattle.from_dimacs.proofs.output.from_dimacs_output.Tie as tie
 
 -- The start, when the reader has answered, and that the buffer has its length.
-abbrev begun : tie.After-read-assignment → tie.Start
+abbrev begun : tie.After-read_assignment → tie.Start
 begun c = c.before.before.before.before.before.before.before.before
 
-long : (c : tie.After-read-assignment) → length (begun c).args.out.now ≡ 32768
-long c = c.before.before.before.before.before.if1.false
+long : (c : tie.After-read_assignment) → length (begun c).args.out.now ≡ 32768
+long c = c.if-out-ne-LONGEST_TEXT.false
 
 -- The graph that was read stands in the three arrays.
-stored : (c : tie.After-s) →
-    let r = c.before.before.before.before.before.before in
-    let d = r.read-assignment in
-    GraphStored (lentAssignment (begun r).args.crosses.now) c.s.given.0.0 d.new.1.0 d.new.1.1.0 d.new.1.1.1.0
+stored : (c : tie.In-Graph-2) →
+    let r = c.before.before.before.before.before in
+    let d = r.read_assignment in
+    GraphStored (lentAssignment (begun r).args.crosses.now) c.in-Graph.s d.new.1.0 d.new.1.1.0 d.new.1.1.1.0
 stored c =
-    let r = c.before.before.before.before.before.before in
-    let d = r.read-assignment in
-    graph-stored (whole (begun r).args.crosses.now) d.ensures.0 c.s.given.1 d.ensures.1.0 d.ensures.1.1.0 d.ensures.1.1.1.0
+    let r = c.before.before.before.before.before in
+    let d = r.read_assignment in
+    graph-stored (whole (begun r).args.crosses.now) d.ensures.0 c.in-Graph.is d.ensures.1.0 d.ensures.1.1.0 d.ensures.1.1.1.0
     d.auto.1.0 d.auto.1.1.0 d.auto.1.1.1.0
 
-returns : tie.Need-returns
+returns : tie.Need-returns-then-out-ne-LONGEST_TEXT
 returns c =
     let at-clear-bytes = c.before.before in
     let at-if1 = at-clear-bytes.before.before in
-    let args = at-if1.before.before.before.args in
-    nothing_left 32768 (fromDimacsOutput args.crosses.now) at-if1.if1.true at-clear-bytes.clear-bytes.ensures
+    let args = at-if1.args in
+    nothing_left 32768 (fromDimacsOutput args.crosses.now) at-if1.if-out-ne-LONGEST_TEXT.true at-clear-bytes.clear_bytes.ensures
 
-put-own-requires : tie.Need-put-own-requires
+put-own-requires : tie.Need-put_own-requires
 put-own-requires c κs =
-    let at-s = c.before.before.before.before.before.before in
-    let r = at-s.before.before.before.before.before.before in
+    let at-s = c.before.before.before.before.before in
+    let r = at-s.before.before.before.before.before in
     (long r, passed (begun r).args.crosses.now _ (stored at-s).same)
 
-returns-2 : tie.Need-returns-2
+returns-2 : tie.Need-returns-in-Refused
 returns-2 c =
     let at-put-refused = c.before.before in
-    let at-refusal = at-put-refused.before.before.before in
-    let r = at-refusal.before.before.before.before.before.before in
+    let at-refusal = at-put-refused.before.before in
+    let r = at-refusal.before.before.before.before.before in
     let crosses = (begun r).args.crosses.now in
-    let refused = graph-refused r.read-assignment.ensures.0 at-refusal.refusal.given.1 in
-    line-written (fromDimacsOutput crosses) (writes crosses refused) (long r) at-put-refused.Put-refused.ensures
+    let refused = graph-refused r.read_assignment.ensures.0 at-refusal.in-Refused.is in
+    line-written (fromDimacsOutput crosses) (writes crosses refused) (long r) at-put-refused.put_refused.ensures
 
-returns-3 : tie.Need-returns-3
+returns-3 : tie.Need-returns-in-Graph
 returns-3 c =
     let at-put-own = c.before.before in
-    let at-s = at-put-own.before.before.before.before.before.before.before in
-    let r = at-s.before.before.before.before.before.before in
+    let at-s = at-put-own.before.before.before.before.before.before in
+    let r = at-s.before.before.before.before.before in
     let crosses = (begun r).args.crosses.now in
-    all-written (fromDimacsOutput crosses) (writes crosses (stored at-s).same) (long r) at-put-own.put-own.ensures
+    all-written (fromDimacsOutput crosses) (writes crosses (stored at-s).same) (long r) at-put-own.put_own.ensures
 
-pub from-dimacs-output-spec : {M : Type 1} → statement M
-from-dimacs-output-spec =
+pub from_dimacs_output_spec : {M : Type 1} → statement M
+from_dimacs_output_spec =
     tie.close
     (tie.spec
     (λ c κs. search rules)
@@ -76,12 +76,12 @@ from-dimacs-output-spec =
     (λ c κs. search rules)
     (λ c. search rules)
     (λ c. search rules)
+    (λ c. omega (arith, stored c.before.before))
+    (λ c. simp length-take (omega (arith, stored c.before.before.before)))
     (λ c. omega (arith, stored c.before.before.before))
     (λ c. simp length-take (omega (arith, stored c.before.before.before.before)))
     (λ c. omega (arith, stored c.before.before.before.before))
     (λ c. simp length-take (omega (arith, stored c.before.before.before.before.before)))
-    (λ c. omega (arith, stored c.before.before.before.before.before))
-    (λ c. simp length-take (omega (arith, stored c.before.before.before.before.before.before)))
     put-own-requires
     (λ c. search rules)
     returns-2

@@ -11,47 +11,47 @@ use Rattle.mark.proofs.output.mark_output.Statement.{statement}
 use Rattle.mark.proofs.output.mark_output.Tie as tie
 
 -- The start, when the reader of a problem has answered.
-abbrev begun : tie.After-read-problem → tie.Start
+abbrev begun : tie.After-read_problem → tie.Start
 begun c = c.before.before.before.before.before.before.before.before.before.before
 
 -- The problem that was read stands in the four arrays.
-stored : (c : tie.After-s) →
-    let at-read-problem = c.before.before.before.before.before.before in
-    let d = at-read-problem.read-problem in
+stored : (c : tie.In-Read-2) →
+    let at-read-problem = c.before.before.before.before.before in
+    let d = at-read-problem.read_problem in
     let a = (begun at-read-problem).args in
-    Stored a.sheet.now a.limits.now c.s.given.0.0 d.new.1.1.0 d.new.1.1.1.0 d.new.1.1.1.1.0 d.new.1.1.1.1.1.0
+    Stored a.sheet.now a.limits.now c.in-Read.s d.new.1.1.0 d.new.1.1.1.0 d.new.1.1.1.1.0 d.new.1.1.1.1.1.0
 stored c =
-    let at-read-problem = c.before.before.before.before.before.before in
-    let d = at-read-problem.read-problem in
+    let at-read-problem = c.before.before.before.before.before in
+    let d = at-read-problem.read_problem in
     let a = (begun at-read-problem).args in
-    stored-in a.sheet.now a.limits.now d.ensures.0 d.ensures.1 c.s.given.1
+    stored-in a.sheet.now a.limits.now d.ensures.0 d.ensures.1 c.in-Read.is
     d.auto.1.1.0 d.auto.1.1.1.0 d.auto.1.1.1.1.0 d.auto.1.1.1.1.1.0
 
-mark-problem-requires : tie.Need-mark-problem-requires
-mark-problem-requires c κs = (stored c.before.before.before.before.before.before.before.before).sizes
+mark-problem-requires : tie.Need-mark_problem-requires
+mark-problem-requires c κs = (stored c.before.before.before.before.before.before.before).sizes
 
-returns : tie.Need-returns
+returns : tie.Need-returns-in-Refused
 unfolding markOutput
 returns c =
-    let at_source = c.before.before.before.before.before in
-    let r = at_source.before.before.before.before.before.before in
+    let at_source = c.before.before.before.before in
+    let r = at_source.before.before.before.before.before in
     let a = (begun r).args in
     answer-inside
     (run_ends lineRoom measuredLine (λ P. markProblem P.graph P.bound a.plan.now a.prices.now)
-    (problem-ended a.sheet.now a.limits.now r.read-problem.ensures.0 at_source.source.given.1)
-    refl c.before.before.Put-refused.ensures)
+    (problem-ended a.sheet.now a.limits.now r.read_problem.ensures.0 at_source.in-Refused.is)
+    refl c.put_refused.ensures)
 
-returns-2 : tie.Need-returns-2
+returns-2 : tie.Need-returns-in-Read
 unfolding markOutput
 returns-2 c =
     let v = c.before.before.before.before.before.before.before.before.before in
-    let a = (begun v.before.before.before.before.before.before.before.before).args in
+    let a = (begun v.before.before.before.before.before.before).args in
     answer-inside
     (run-goes lineRoom measuredLine (λ P. markProblem P.graph P.bound a.plan.now a.prices.now)
-    (stored-problem (stored v.before.before) v.vertex-count.ensures) c.before.before.mark-problem.ensures)
+    (stored-problem (stored v.before) v.vertex_count-n.ensures) c.mark_problem.ensures)
 
-pub mark-output-spec : {M : Type 1} → statement M
-mark-output-spec =
+pub mark_output_spec : {M : Type 1} → statement M
+mark_output_spec =
     tie.close
     (tie.spec
     (λ c. search rules)
@@ -64,14 +64,14 @@ mark-output-spec =
     (λ c. search rules)
     (λ c κs. search rules)
     (λ c. search rules)
+    (λ c. omega (arith, stored c.before.before))
+    (λ c. simp length-take (omega (arith, stored c.before.before.before)))
     (λ c. omega (arith, stored c.before.before.before))
     (λ c. simp length-take (omega (arith, stored c.before.before.before.before)))
     (λ c. omega (arith, stored c.before.before.before.before))
     (λ c. simp length-take (omega (arith, stored c.before.before.before.before.before)))
-    (λ c. omega (arith, stored c.before.before.before.before.before))
-    (λ c. simp length-take (omega (arith, stored c.before.before.before.before.before.before)))
-    (λ c. omega (arith, stored c.before.before.before.before.before.before, c.before.before.before.before.vertex-count.ensures))
-    (λ c. simp length-take (omega (arith, stored c.before.before.before.before.before.before.before, c.before.before.before.before.before.vertex-count.ensures)))
+    (λ c. omega (arith, stored c.before.before.before.before.before, c.vertex_count-n.ensures))
+    (λ c. simp length-take (omega (arith, stored c.before.before.before.before.before.before, c.vertex_count-n.ensures)))
     mark-problem-requires
     (λ c. search rules)
     returns

@@ -20,61 +20,61 @@ abbrev graph : tie.Start → Graph
 graph s = graph_of s.args.s s.args.row.now s.args.column.now s.args.weight.now
 
 -- How many prices there are, and that the array has room for them.
-abbrev start1 : tie.After-vertex-count → tie.Start
+abbrev start1 : tie.After-vertex_count → tie.Start
 start1 c = c.before.before.before.before.before.before
 
-abbrev count : tie.After-vertex-count → ℕ
-count c = c.vertex-count.result + (start1 c).args.s.edges
+abbrev count : tie.After-vertex_count → ℕ
+count c = c.vertex_count.result + (start1 c).args.s.edges
 
-fits : (c : tie.After-vertex-count) → count c ≤ 1152
-fits c = omega (arith, (start1 c).requires, c.vertex-count.ensures)
+fits : (c : tie.After-vertex_count) → count c ≤ 1152
+fits c = omega (arith, (start1 c).requires, c.vertex_count.ensures)
 
-abbrev counted : tie.After-read-numbers → tie.After-vertex-count
+abbrev counted : tie.After-read_numbers → tie.After-vertex_count
 counted c = c.before.before.before
 
-back : (c : tie.After-read-numbers) → PartBack (count (counted c)) zeros c.read-numbers.new.1.1.1.0
-back c = came-back (count (counted c)) zeros (fits (counted c)) c.read-numbers.auto.1.1.1.0
+back : (c : tie.After-read_numbers) → PartBack (count (counted c)) zeros c.read_numbers.new.1.1.1.0
+back c = came-back (count (counted c)) zeros (fits (counted c)) c.read_numbers.auto.1.1.1.0
 
-slice-aggregate-read-numbers : tie.Need-slice-aggregate-read-numbers
+slice-aggregate-read-numbers : tie.Need-slice_bounds-read_numbers-end
 slice-aggregate-read-numbers c = first-long (count c.before.before) zeros (fits c.before.before)
 
-array-share-prefix-price : tie.Need-array-share-prefix-price
-array-share-prefix-price c = (back c.before.before.before).room
+array-share-prefix-price : tie.Need-slice_bounds-price-end-in-Read
+array-share-prefix-price c = (back c.before.before).room
 
-slice-aggregate-mark-prices : tie.Need-slice-aggregate-mark-prices
-slice-aggregate-mark-prices c = (back c.before.before.before.before).long
+slice-aggregate-mark-prices : tie.Need-slice_bounds-mark_prices-end
+slice-aggregate-mark-prices c = (back c.before.before.before).long
 
-mark-prices-requires : tie.Need-mark-prices-requires
+mark-prices-requires : tie.Need-mark_prices-requires
 mark-prices-requires c κs =
-    let v = c.before.before.before.before.before.before.before.before.vertex-count in
-    let s = c.before.before.before.before.before.before.before.before.before.before.before.before.before.before in
-    vertices-priced v.result s.args.s.edges v.ensures (back c.before.before.before.before.before).long
+    let v = c.vertex_count in
+    let s = c.before.before.before.before.before.before.before.before.before.before.before.before.before in
+    vertices-priced v.result s.args.s.edges v.ensures (back c.before.before.before.before).long
 
-returns : tie.Need-returns
+returns : tie.Need-returns-in-Refused
 returns c =
-    let r = c.before.before.before.before.before.before.before.before in
+    let r = c.before.before.before.before.before.before in
     let n = count (counted r) in
-    let v = (counted r).vertex-count in
-    let s = c.before.before.before.before.before.before.before.before.before.before.before.before.before.before.before.before.before in
+    let v = (counted r).vertex_count in
+    let s = c.before.before.before.before.before.before.before.before.before.before.before.before.before.before.before in
     same_line
     (plan-ends (graph s) s.args.bound.now s.args.chosen.now s.args.prices.now n (length (take n zeros))
-    (ap (λ k. k + s.args.s.edges) v.ensures) (first-long n zeros (fits (counted r))) r.read-numbers.ensures.0 c.before.before.before.before.before.refusal.given.1)
-    c.before.before.Put-refused.ensures
+    (ap (λ k. k + s.args.s.edges) v.ensures) (first-long n zeros (fits (counted r))) r.read_numbers.ensures.0 c.in-Refused.is)
+    c.put_refused.ensures
 
-returns-2 : tie.Need-returns-2
+returns-2 : tie.Need-returns-in-Read
 returns-2 c =
-    let r = c.before.before.before.before.before.before.before.before in
+    let r = c.before.before.before.before.before.before.before in
     let n = count (counted r) in
-    let v = (counted r).vertex-count in
-    let s = c.before.before.before.before.before.before.before.before.before.before.before.before.before.before.before.before.before in
+    let v = (counted r).vertex_count in
+    let s = c.before.before.before.before.before.before.before.before.before.before.before.before.before.before.before.before in
     same_line
     (plan-goes (graph s) s.args.bound.now s.args.chosen.now s.args.prices.now n (length (take n zeros))
-    (ap (λ k. k + s.args.s.edges) v.ensures) (first-long n zeros (fits (counted r))) r.read-numbers.ensures.0
-    c.before.before.before.before.before.enum_told.given.1 (back r).same r.read-numbers.ensures.1)
-    c.before.before.mark-prices.ensures
+    (ap (λ k. k + s.args.s.edges) v.ensures) (first-long n zeros (fits (counted r))) r.read_numbers.ensures.0
+    c.in-Read.is (back r).same r.read_numbers.ensures.1)
+    c.mark_prices.ensures
 
-pub mark-plan-spec : {M : Type 1} → statement M
-mark-plan-spec =
+pub mark_plan_spec : {M : Type 1} → statement M
+mark_plan_spec =
     tie.close
     (tie.spec
     (λ c κs. search rules)

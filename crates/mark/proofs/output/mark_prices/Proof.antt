@@ -6,18 +6,18 @@ use borrow.Author.Rules.{rules}
 use Rattle.mark.proofs.output.mark_prices.Statement.{statement}
 use Rattle.mark.proofs.output.mark_prices.Tie as tie
 
-slice-aggregate-vertex-price : tie.Need-slice-aggregate-vertex-price
-slice-aggregate-vertex-price c = first-long c.before.vertex-count.result c.before.before.before.before.before.before.args.price.now (search rules)
+slice-aggregate-vertex-price : tie.Need-slice_bounds-vertex_price-end
+slice-aggregate-vertex-price c = first-long c.vertex_count-n.result c.args.price.now (search rules)
 
 returns : tie.Need-returns
 returns c =
-    let a = c.before.before.before.before.before.before.before.before.before.before.before.before.before.before.args in
-    let v = c.before.before.before.before.before.before.before.before.before.vertex-count in
+    let a = c.args in
+    let v = c.vertex_count-n in
     prices-composed (graph_of a.s a.row.now a.column.now a.weight.now) a.bound.now a.chosen.now a.price.now
-    v.result v.ensures c.before.before.before.before.measure.ensures c.before.before.put-measured.ensures
+    v.result v.ensures c.measure-answer.ensures c.put_measured.ensures
 
-pub mark-prices-spec : {M : Type 1} → statement M
-mark-prices-spec =
+pub mark_prices_spec : {M : Type 1} → statement M
+mark_prices_spec =
     tie.close
     (tie.spec
     (λ c κs. search rules)

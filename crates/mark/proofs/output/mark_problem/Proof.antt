@@ -16,45 +16,45 @@ zeros = replicate 1024 0
 abbrev graph : tie.Start → Graph
 graph s = graph_of s.args.s s.args.row.now s.args.column.now s.args.weight.now
 
-abbrev start1 : tie.After-read-subgraph → tie.Start
+abbrev start1 : tie.After-read_subgraph → tie.Start
 start1 c = c.before.before.before.before.before.before.before.before
 
-back : (c : tie.After-read-subgraph) → PartBack (start1 c).args.s.edges zeros c.read-subgraph.new.1.1.1.1.1.0
-back c = came-back (start1 c).args.s.edges zeros (start1 c).requires.few c.read-subgraph.auto.1.1.1.1.1.0
+back : (c : tie.After-read_subgraph) → PartBack (start1 c).args.s.edges zeros c.read_subgraph.new.1.1.1.1.1.0
+back c = came-back (start1 c).args.s.edges zeros (start1 c).requires.few c.read_subgraph.auto.1.1.1.1.1.0
 
-slice-aggregate-read-subgraph : tie.Need-slice-aggregate-read-subgraph
+slice-aggregate-read-subgraph : tie.Need-slice_bounds-read_subgraph-end
 slice-aggregate-read-subgraph c =
     let s = c.before.before.before.before.before.before.before in
     first-long s.args.s.edges zeros s.requires.few
 
-array-share-prefix-chosen : tie.Need-array-share-prefix-chosen
-array-share-prefix-chosen c = (back c.before.before.before).room
+array-share-prefix-chosen : tie.Need-slice_bounds-chosen-end-in-Read
+array-share-prefix-chosen c = (back c.before.before).room
 
-slice-aggregate-mark-plan : tie.Need-slice-aggregate-mark-plan
-slice-aggregate-mark-plan c = (back c.before.before.before.before).long
+slice-aggregate-mark-plan : tie.Need-slice_bounds-mark_plan-end
+slice-aggregate-mark-plan c = (back c.before.before.before).long
 
-returns : tie.Need-returns
+returns : tie.Need-returns-in-Refused
 returns c =
-    let s = c.before.before.before.before.before.before.before.before.before.before.before.before.before.before.before.before in
+    let s = c.before.before.before.before.before.before.before.before.before.before.before.before.before.before in
     let m = s.args.s.edges in
-    let d = c.before.before.before.before.before.before.before.before.read-subgraph in
+    let d = c.read_subgraph in
     same_line
     (problem-ends (graph s) s.args.bound.now s.args.plan.now s.args.prices.now (length (take m zeros))
-    (first-long m zeros s.requires.few) d.ensures.0 c.before.before.before.before.before.refusal.given.1)
-    c.before.before.Put-refused.ensures
+    (first-long m zeros s.requires.few) d.ensures.0 c.in-Refused.is)
+    c.put_refused.ensures
 
-returns-2 : tie.Need-returns-2
+returns-2 : tie.Need-returns-in-Read
 returns-2 c =
-    let s = c.before.before.before.before.before.before.before.before.before.before.before.before.before.before.before.before in
+    let s = c.before.before.before.before.before.before.before.before.before.before.before.before.before.before.before in
     let m = s.args.s.edges in
-    let r = c.before.before.before.before.before.before.before.before in
+    let r = c.before.before.before.before.before.before.before in
     same_line
     (problem-goes (graph s) s.args.bound.now s.args.plan.now s.args.prices.now (length (take m zeros))
-    (first-long m zeros s.requires.few) r.read-subgraph.ensures.0 c.before.before.before.before.before.enum_told.given.1 (back r).same r.read-subgraph.ensures.1)
-    c.before.before.mark-plan.ensures
+    (first-long m zeros s.requires.few) r.read_subgraph.ensures.0 c.in-Read.is (back r).same r.read_subgraph.ensures.1)
+    c.mark_plan.ensures
 
-pub mark-problem-spec : {M : Type 1} → statement M
-mark-problem-spec =
+pub mark_problem_spec : {M : Type 1} → statement M
+mark_problem_spec =
     tie.close
     (tie.spec
     (λ c. search rules)

@@ -10,19 +10,19 @@ use borrow.Author.Rules.{rules}
 use Rattle.mark.proofs.output.put_measured.Statement.{statement}
 use Rattle.mark.proofs.output.put_measured.Tie as tie
 
-returns : tie.Need-returns
+returns : tie.Need-returns-in-Measured
 returns c o says =
     let m = c.before.before.before.before.before.answer.given in
-    same_line (ap (cameFrom Input) (told_same (yields m.0.0) o (sym (ap measureSays m.1) ∙ says))) c.before.before.put-measures.ensures
+    same_line (ap (cameFrom Input) (told_same (yields m.0.0) o (sym (ap measureSays m.1) ∙ says))) c.put_measures.ensures
 
-returns-2 : tie.Need-returns-2
+returns-2 : tie.Need-returns-in-Refused
 returns-2 c o says =
     let r = c.before.before.before.before.before.answer2.given in
     same_line (ap (cameFrom Input) (told_same (refuses r.0.0.fault r.0.0.place) o (sym (ap measureSays r.1) ∙ says)))
-    c.before.before.Put-refused.ensures
+    c.put_refused.ensures
 
-pub put-measured-spec : {M : Type 1} → statement M
-put-measured-spec =
+pub put_measured_spec : {M : Type 1} → statement M
+put_measured_spec =
     tie.close
     (tie.spec
     (λ c. search rules)

@@ -16,59 +16,59 @@ abbrev graph : tie.Start → Graph
 graph s = graph_of s.args.s s.args.row.now s.args.column.now s.args.weight.now
 
 -- There is room for a price of each vertex.
-room : (c : tie.After-vertex-count) → c.vertex-count.result ≤ 128
-room c = omega (arith, c.before.before.before.before.requires.0.order, c.vertex-count.ensures)
+room : (c : tie.After-vertex_count-n) → c.vertex_count-n.result ≤ 128
+room c = omega (arith, c.requires.0.order, c.vertex_count-n.ensures)
 
 -- When the pricer has answered: the start, what was lent, and the prices that came back.
-abbrev counted : tie.After-price-general → tie.After-vertex-count
+abbrev counted : tie.After-price_general → tie.After-vertex_count-n
 counted c = c.before.before.before.before
 
-abbrev begun : tie.After-price-general → tie.Start
+abbrev begun : tie.After-price_general → tie.Start
 begun c = (counted c).before.before.before.before
 
-vertex-lent : (c : tie.After-price-general) → length (take (counted c).vertex-count.result (replicate 128 (pos 0))) ≡ vertices (graph (begun c))
-vertex-lent c = sym (zeros-lent (pos 0) 128 (room (counted c))) ∙ (counted c).vertex-count.ensures
+vertex-lent : (c : tie.After-price_general) → length (take (counted c).vertex_count-n.result (replicate 128 (pos 0))) ≡ vertices (graph (begun c))
+vertex-lent c = sym (zeros-lent (pos 0) 128 (room (counted c))) ∙ (counted c).vertex_count-n.ensures
 
-edge-lent : (c : tie.After-price-general) → length (take (begun c).args.s.edges (replicate 1024 (pos 0))) ≡ (begun c).args.s.edges
+edge-lent : (c : tie.After-price_general) → length (take (begun c).args.s.edges (replicate 1024 (pos 0))) ≡ (begun c).args.s.edges
 edge-lent c = sym (zeros-lent (pos 0) 1024 (begun c).requires.0.few)
 
-vertex-back : (c : tie.After-price-general) → PartBack (counted c).vertex-count.result (replicate 128 (pos 0)) c.price-general.new.1.1.1.1.1.0
-vertex-back c = came-back (counted c).vertex-count.result (replicate 128 (pos 0)) (room (counted c)) c.price-general.auto.1.1.1.1.1.0
+vertex-back : (c : tie.After-price_general) → PartBack (counted c).vertex_count-n.result (replicate 128 (pos 0)) c.price_general.new.1.1.1.1.1.0
+vertex-back c = came-back (counted c).vertex_count-n.result (replicate 128 (pos 0)) (room (counted c)) c.price_general.auto.1.1.1.1.1.0
 
-edge-back : (c : tie.After-price-general) → PartBack (begun c).args.s.edges (replicate 1024 (pos 0)) c.price-general.new.1.1.1.1.1.1.0
-edge-back c = came-back (begun c).args.s.edges (replicate 1024 (pos 0)) (begun c).requires.0.few c.price-general.auto.1.1.1.1.1.1.0
+edge-back : (c : tie.After-price_general) → PartBack (begun c).args.s.edges (replicate 1024 (pos 0)) c.price_general.new.1.1.1.1.1.1.0
+edge-back c = came-back (begun c).args.s.edges (replicate 1024 (pos 0)) (begun c).requires.0.few c.price_general.auto.1.1.1.1.1.1.0
 
-slice-aggregate-price-general : tie.Need-slice-aggregate-price-general
+slice-aggregate-price-general : tie.Need-slice_bounds-price_general-end
 slice-aggregate-price-general c = zeros-lent (pos 0) 128 (room c.before.before)
 
-slice-aggregate-price-general-2 : tie.Need-slice-aggregate-price-general-2
-slice-aggregate-price-general-2 c = zeros-lent (pos 0) 1024 c.before.before.before.before.before.before.before.requires.0.few
+slice-aggregate-price-general-2 : tie.Need-slice_bounds-price_general-end-2
+slice-aggregate-price-general-2 c = zeros-lent (pos 0) 1024 c.requires.0.few
 
-put-numbers-requires : tie.Need-put-numbers-requires
+put-numbers-requires : tie.Need-put_numbers-requires
 put-numbers-requires c κs =
-    let r = c.before.before.before.before.before.before.before in
+    let r = c.before.before.before.before.before.before in
     let s = begun r in
-    (s.pre.1, (omega (arith, (vertex-back r).long, room (counted r)), omega (arith, (edge-back r).long, s.pre.0.few)))
+    (s.requires.1, (omega (arith, (vertex-back r).long, room (counted r)), omega (arith, (edge-back r).long, s.requires.0.few)))
 
-returns : tie.Need-returns
+returns : tie.Need-returns-in-Refused
 returns c =
-    let at-refusal = c.before.before.before.before.before in
-    let r = at-refusal.before.before.before.before in
+    let at-refusal = c.before.before.before.before in
+    let r = at-refusal.before.before.before in
     let s = begun r in
-    refusal-left (graph s) s.args.bound.now (vertex-lent r) (edge-lent r) r.price-general.ensures.0 at-refusal.refusal.given.1 s.pre.1
-    c.before.before.Put-refused.ensures
+    refusal-left (graph s) s.args.bound.now (vertex-lent r) (edge-lent r) r.price_general.ensures.0 at-refusal.in-Refused.is s.requires.1
+    c.put_refused.ensures
 
-returns-2 : tie.Need-returns-2
+returns-2 : tie.Need-returns-in-Priced
 returns-2 c =
     let at-enum-told = c.before.before.before.before.before.before in
-    let r = at-enum-told.before.before.before.before in
+    let r = at-enum-told.before.before.before in
     let s = begun r in
-    let done = r.price-general.ensures in
-    prices-left (graph s) s.args.bound.now (vertex-lent r) (edge-lent r) done.0 at-enum-told.enum_told.given.1 done.1
-    (vertex-back r).same (edge-back r).same s.pre.1 c.before.before.put-numbers.ensures
+    let done = r.price_general.ensures in
+    prices-left (graph s) s.args.bound.now (vertex-lent r) (edge-lent r) done.0 at-enum-told.in-Priced.is done.1
+    (vertex-back r).same (edge-back r).same s.requires.1 c.put_numbers.ensures
 
-pub price-problem-spec : {M : Type 1} → statement M
-price-problem-spec =
+pub price_problem_spec : {M : Type 1} → statement M
+price_problem_spec =
     tie.close
     (tie.spec
     (λ c κs. search rules)
@@ -81,10 +81,10 @@ price-problem-spec =
     (λ c. search rules)
     (λ c κs. search rules)
     (λ c. search rules)
-    (λ c. omega (arith, (vertex-back c.before.before.before.before.before).room))
-    (λ c. omega (arith, (vertex-back c.before.before.before.before.before.before).long))
-    (λ c. omega (arith, (edge-back c.before.before.before.before.before.before).room))
-    (λ c. omega (arith, (edge-back c.before.before.before.before.before.before.before).long))
+    (λ c. omega (arith, (vertex-back c.before.before.before.before).room))
+    (λ c. omega (arith, (vertex-back c.before.before.before.before.before).long))
+    (λ c. omega (arith, (edge-back c.before.before.before.before.before).room))
+    (λ c. omega (arith, (edge-back c.before.before.before.before.before.before).long))
     put-numbers-requires
     (λ c. search rules)
     returns

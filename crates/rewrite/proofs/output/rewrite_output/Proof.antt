@@ -11,21 +11,21 @@ use Rattle.rewriting.proofs.Anew.{output-anew, output-line}
 use Rattle.rewrite.proofs.output.rewrite_output.Statement.{statement}
 use Rattle.rewrite.proofs.output.rewrite_output.Tie as tie
 
-returns : tie.Need-returns
+returns : tie.Need-returns-then-out-lt-LONGEST_TEXT
 returns c =
     let at-clear-bytes = c.before.before.before in
     let start = at-clear-bytes.before.before.before.before in
     let a = start.args in
-    let C = no_room 32768 (rewriteOutput a.text.now) a.out.now at-clear-bytes.clear-bytes.ensures c.if1.true in
+    let C = no_room 32768 (rewriteOutput a.text.now) a.out.now at-clear-bytes.clear_bytes.ensures c.if-out-lt-LONGEST_TEXT.true in
     (composed-inside C, C)
 
-put-text-requires : tie.Need-put-text-requires
+put-text-requires : tie.Need-put_text-requires
 put-text-requires c κs =
     let at-if1 = c.before.before.before in
     let start = at-if1.before.before.before.before.before.before.before in
-    omega (arith, at-if1.if1.false, taken-fits start.args.text.now (sym c.before.before.is-taken.ensures ∙ c.before.if2.true))
+    omega (arith, at-if1.if-out-lt-LONGEST_TEXT.false, taken-fits start.args.text.now (sym c.is_taken.ensures ∙ c.if-is_taken.true))
 
-returns-2 : tie.Need-returns-2
+returns-2 : tie.Need-returns-then-is_taken
 returns-2 c =
     let at-if2 = c.before.before.before.before in
     let at-is-taken = at-if2.before in
@@ -33,11 +33,11 @@ returns-2 c =
     let at-clear-bytes = at-if1.before.before.before in
     let start = at-clear-bytes.before.before.before.before in
     let a = start.args in
-    let C = text-composed 32768 (rewriteOutput a.text.now) a.out.now at-clear-bytes.clear-bytes.ensures at-if1.if1.false
-    (puts-same c.before.before.put-text.ensures (sym (output-anew a.text.now (sym at-is-taken.is-taken.ensures ∙ at-if2.if2.true)))) in
+    let C = text-composed 32768 (rewriteOutput a.text.now) a.out.now at-clear-bytes.clear_bytes.ensures at-if1.if-out-lt-LONGEST_TEXT.false
+    (puts-same c.put_text.ensures (sym (output-anew a.text.now (sym at-is-taken.is_taken.ensures ∙ at-if2.if-is_taken.true)))) in
     (composed-inside C, C)
 
-returns-3 : tie.Need-returns-3
+returns-3 : tie.Need-returns-else-is_taken
 returns-3 c =
     let at-if2 = c.before.before.before.before.before in
     let at-is-taken = at-if2.before in
@@ -45,13 +45,13 @@ returns-3 c =
     let at-clear-bytes = at-if1.before.before.before in
     let start = at-clear-bytes.before.before.before.before in
     let a = start.args in
-    let C = text-composed 32768 (rewriteOutput a.text.now) a.out.now at-clear-bytes.clear-bytes.ensures at-if1.if1.false
-    (puts-same c.before.before.put-bytes.ensures
-    (line-is (bytes "cannot read") ∙ sym (output-line a.text.now (sym at-is-taken.is-taken.ensures ∙ at-if2.if2.false)))) in
+    let C = text-composed 32768 (rewriteOutput a.text.now) a.out.now at-clear-bytes.clear_bytes.ensures at-if1.if-out-lt-LONGEST_TEXT.false
+    (puts-same c.put_bytes.ensures
+    (line-is (bytes "cannot read") ∙ sym (output-line a.text.now (sym at-is-taken.is_taken.ensures ∙ at-if2.if-is_taken.false)))) in
     (composed-inside C, C)
 
-pub rewrite-output-spec : {M : Type 1} → statement M
-rewrite-output-spec =
+pub rewrite_output_spec : {M : Type 1} → statement M
+rewrite_output_spec =
     tie.close
     (tie.spec
     (λ c κs. search rules)

@@ -16,67 +16,67 @@ abbrev graph : tie.Start → Graph
 graph s = graph_of s.args.s s.args.row.now s.args.column.now s.args.weight.now
 
 -- When the solver has answered: the start, what was lent, and the marks that came back.
-abbrev counted : tie.After-solve → tie.After-vertex-count
+abbrev counted : tie.After-solve → tie.After-vertex_count-n
 counted c = c.before.before.before.before.before.before
 
 abbrev begun : tie.After-solve → tie.Start
 begun c = (counted c).before.before.before.before.before
 
-lent : (c : tie.After-solve) → lentParts (graph (begun c)) (counted c).vertex-count.result ≡ lentFor (graph (begun c))
-lent c = all-lent (graph (begun c)) (begun c).requires.0 (counted c).vertex-count.ensures
+lent : (c : tie.After-solve) → lentParts (graph (begun c)) (counted c).vertex_count-n.result ≡ lentFor (graph (begun c))
+lent c = all-lent (graph (begun c)) (begun c).requires.0 (counted c).vertex_count-n.ensures
 
 back : (c : tie.After-solve) → PartBack (begun c).args.s.edges noMarks c.solve.new.1.1.1.1.1.1.0
 back c = came-back (begun c).args.s.edges noMarks (begun c).requires.0.few c.solve.auto.1.1.1.1.1.1.0
 
-slice-aggregate-solve : tie.Need-slice-aggregate-solve
-slice-aggregate-solve c = zeros-lent 0 1024 c.before.before.before.before.before.before.before.requires.0.few
+slice-aggregate-solve : tie.Need-slice_bounds-solve-end
+slice-aggregate-solve c = zeros-lent 0 1024 c.requires.0.few
 
-slice-aggregate-solve-2 : tie.Need-slice-aggregate-solve-2
+slice-aggregate-solve-2 : tie.Need-slice_bounds-solve-end-2
 slice-aggregate-solve-2 c =
     zeros-lent (pos 0) 128
-    (omega (arith, c.before.before.before.before.before.before.before.before.requires.0.order, c.before.before.before.vertex-count.ensures))
+    (omega (arith, c.requires.0.order, c.vertex_count-n.ensures))
 
-slice-aggregate-solve-3 : tie.Need-slice-aggregate-solve-3
-slice-aggregate-solve-3 c = zeros-lent (pos 0) 1024 c.before.before.before.before.before.before.before.before.before.requires.0.few
+slice-aggregate-solve-3 : tie.Need-slice_bounds-solve-end-3
+slice-aggregate-solve-3 c = zeros-lent (pos 0) 1024 c.requires.0.few
 
-array-share-prefix-chosen : tie.Need-array-share-prefix-chosen
-array-share-prefix-chosen c = (back c.before.before.before.before.before.before.before).room
+array-share-prefix-chosen : tie.Need-slice_bounds-chosen-end-in-Solved
+array-share-prefix-chosen c = (back c.before.before.before.before.before.before).room
 
-slice-aggregate-put-subgraph : tie.Need-slice-aggregate-put-subgraph
-slice-aggregate-put-subgraph c = (back c.before.before.before.before.before.before.before.before).long
+slice-aggregate-put-subgraph : tie.Need-slice_bounds-put_subgraph-end
+slice-aggregate-put-subgraph c = (back c.before.before.before.before.before.before.before).long
 
-put-subgraph-requires : tie.Need-put-subgraph-requires
+put-subgraph-requires : tie.Need-put_subgraph-requires
 put-subgraph-requires c κs =
-    let r = c.before.before.before.before.before.before.before.before in
+    let r = c.before.before.before.before.before.before.before in
     let s = begun r in
     let done = r.solve.ensures in
-    let is = c.before.before.enum_told.given.1 in (
-      s.pre.1,
+    let is = c.in-Solved.is in (
+      s.requires.1,
       (
         (solved-passed (graph s) s.args.bound.now s.args.index.now (lent r) done.0 is done.1).sound,
         part-marks (graph s) s.args.bound.now s.args.index.now (lent r) done.0 is done.1 (drop s.args.s.edges noMarks),
       ),
     )
 
-returns : tie.Need-returns
+returns : tie.Need-returns-in-Refused
 returns c =
-    let at-refusal = c.before.before.before.before.before in
-    let r = at-refusal.before.before.before.before.before.before in
+    let at-refusal = c.before.before.before.before in
+    let r = at-refusal.before.before.before.before.before in
     let s = begun r in
-    refusal-left (graph s) s.args.bound.now s.args.index.now (lent r) r.solve.ensures.0 at-refusal.refusal.given.1 s.pre.1
-    c.before.before.Put-refused.ensures
+    refusal-left (graph s) s.args.bound.now s.args.index.now (lent r) r.solve.ensures.0 at-refusal.in-Refused.is s.requires.1
+    c.put_refused.ensures
 
-returns-2 : tie.Need-returns-2
+returns-2 : tie.Need-returns-in-Solved
 returns-2 c =
     let at-enum-told = c.before.before.before.before.before in
-    let r = at-enum-told.before.before.before.before.before.before in
+    let r = at-enum-told.before.before.before.before.before in
     let s = begun r in
     let done = r.solve.ensures in
-    part-written (graph s) s.args.bound.now s.args.index.now (lent r) done.0 at-enum-told.enum_told.given.1 done.1
-    (drop s.args.s.edges noMarks) s.pre.1 (c.before.before.put-subgraph.ensures s.args.weight.now)
+    part-written (graph s) s.args.bound.now s.args.index.now (lent r) done.0 at-enum-told.in-Solved.is done.1
+    (drop s.args.s.edges noMarks) s.requires.1 (c.put_subgraph.ensures s.args.weight.now)
 
-pub solve-indexed-spec : {M : Type 1} → statement M
-solve-indexed-spec =
+pub solve_indexed_spec : {M : Type 1} → statement M
+solve_indexed_spec =
     tie.close
     (tie.spec
     (λ c κs. search rules)

@@ -9,55 +9,55 @@ use Rattle.solve.proofs.output.solve_output.Statement.{statement}
 use Rattle.solve.proofs.output.solve_output.Tie as tie
 
 -- The start, when the reader of a problem has answered, and that the buffer has its length.
-abbrev begun : tie.After-read-problem → tie.Start
+abbrev begun : tie.After-read_problem → tie.Start
 begun c = c.before.before.before.before.before.before.before.before.before
 
-long : (c : tie.After-read-problem) → length (begun c).args.out.now ≡ 16384
-long c = c.before.before.before.before.before.if1.false
+long : (c : tie.After-read_problem) → length (begun c).args.out.now ≡ 16384
+long c = c.if-out-ne-SUBGRAPH_BYTES.false
 
 -- The problem that was read stands in the four arrays.
-stored : (c : tie.After-s) →
-    let at-read-problem = c.before.before.before.before.before.before in
-    let d = at-read-problem.read-problem in
+stored : (c : tie.In-Read-2) →
+    let at-read-problem = c.before.before.before.before.before in
+    let d = at-read-problem.read_problem in
     let a = (begun at-read-problem).args in
-    Stored a.sheet.now a.limits.now c.s.given.0.0 d.new.1.1.0 d.new.1.1.1.0 d.new.1.1.1.1.0 d.new.1.1.1.1.1.0
+    Stored a.sheet.now a.limits.now c.in-Read.s d.new.1.1.0 d.new.1.1.1.0 d.new.1.1.1.1.0 d.new.1.1.1.1.1.0
 stored c =
-    let at-read-problem = c.before.before.before.before.before.before in
-    let d = at-read-problem.read-problem in
+    let at-read-problem = c.before.before.before.before.before in
+    let d = at-read-problem.read_problem in
     let a = (begun at-read-problem).args in
-    stored-in a.sheet.now a.limits.now d.ensures.0 d.ensures.1 c.s.given.1
+    stored-in a.sheet.now a.limits.now d.ensures.0 d.ensures.1 c.in-Read.is
     d.auto.1.1.0 d.auto.1.1.1.0 d.auto.1.1.1.1.0 d.auto.1.1.1.1.1.0
 
-returns : tie.Need-returns
+returns : tie.Need-returns-then-out-ne-SUBGRAPH_BYTES
 returns c =
-    let clear-bytes = c.before.before.clear-bytes in
+    let clear-bytes = c.clear_bytes in
     let at-if1 = c.before.before.before.before in
-    let a = at-if1.before.before.before.before.args in
-    nothing_written a.sheet.now a.limits.now at-if1.if1.true clear-bytes.ensures
+    let a = at-if1.args in
+    nothing_written a.sheet.now a.limits.now at-if1.if-out-ne-SUBGRAPH_BYTES.true clear-bytes.ensures
 
-solve-problem-requires : tie.Need-solve-problem-requires
+solve-problem-requires : tie.Need-solve_problem-requires
 solve-problem-requires c κs =
-    let at-s = c.before.before.before.before.before.before.before.before in
-    ((stored at-s).sizes, long at-s.before.before.before.before.before.before)
+    let at-s = c.before.before.before.before.before.before.before in
+    ((stored at-s).sizes, long at-s.before.before.before.before.before)
 
-returns-2 : tie.Need-returns-2
+returns-2 : tie.Need-returns-in-Refused
 returns-2 c =
-    let at_source = c.before.before.before.before.before in
-    let r = at_source.before.before.before.before.before.before in
+    let at_source = c.before.before.before.before in
+    let r = at_source.before.before.before.before.before in
     let a = (begun r).args in
     refusal-written a.sheet.now a.limits.now
-    (problem-ended a.sheet.now a.limits.now r.read-problem.ensures.0 at_source.source.given.1)
-    (long r) c.before.before.Put-refused.ensures
+    (problem-ended a.sheet.now a.limits.now r.read_problem.ensures.0 at_source.in-Refused.is)
+    (long r) c.put_refused.ensures
 
-returns-3 : tie.Need-returns-3
+returns-3 : tie.Need-returns-in-Read
 returns-3 c =
     let v = c.before.before.before.before.before.before.before.before.before in
-    let a = (begun v.before.before.before.before.before.before.before.before).args in
-    solution-written a.sheet.now a.limits.now (stored-problem (stored v.before.before) v.vertex-count.ensures)
-    c.before.before.solve-problem.ensures
+    let a = (begun v.before.before.before.before.before.before).args in
+    solution-written a.sheet.now a.limits.now (stored-problem (stored v.before) v.vertex_count-n.ensures)
+    c.solve_problem.ensures
 
-pub solve-output-spec : {M : Type 1} → statement M
-solve-output-spec =
+pub solve_output_spec : {M : Type 1} → statement M
+solve_output_spec =
     tie.close
     (tie.spec
     (λ c κs. search rules)
@@ -73,14 +73,14 @@ solve-output-spec =
     (λ c. search rules)
     (λ c κs. search rules)
     (λ c. search rules)
+    (λ c. omega (arith, stored c.before.before))
+    (λ c. simp length-take (omega (arith, stored c.before.before.before)))
     (λ c. omega (arith, stored c.before.before.before))
     (λ c. simp length-take (omega (arith, stored c.before.before.before.before)))
     (λ c. omega (arith, stored c.before.before.before.before))
     (λ c. simp length-take (omega (arith, stored c.before.before.before.before.before)))
-    (λ c. omega (arith, stored c.before.before.before.before.before))
-    (λ c. simp length-take (omega (arith, stored c.before.before.before.before.before.before)))
-    (λ c. omega (arith, stored c.before.before.before.before.before.before, c.before.before.before.before.vertex-count.ensures))
-    (λ c. simp length-take (omega (arith, stored c.before.before.before.before.before.before.before, c.before.before.before.before.before.vertex-count.ensures)))
+    (λ c. omega (arith, stored c.before.before.before.before.before, c.vertex_count-n.ensures))
+    (λ c. simp length-take (omega (arith, stored c.before.before.before.before.before.before, c.vertex_count-n.ensures)))
     solve-problem-requires
     (λ c. search rules)
     returns-2

@@ -15,52 +15,52 @@ abbrev graph : tie.Start → Graph
 graph s = graph_of s.args.s s.args.row.now s.args.column.now s.args.weight.now
 
 -- When the index is built: the start, what was lent, and what came back.
-abbrev counted : tie.After-build-index → tie.After-index-numbers
+abbrev counted : tie.After-build_index → tie.After-index_numbers-k
 counted c = c.before.before
 
-abbrev begun : tie.After-build-index → tie.Start
+abbrev begun : tie.After-build_index → tie.Start
 begun c = (counted c).before.before.before.before
 
-abbrev size : tie.After-build-index → ℕ
-size c = (counted c).index-numbers.result
+abbrev size : tie.After-build_index → ℕ
+size c = (counted c).index_numbers-k.result
 
-lent : (c : tie.After-build-index) → length (take (size c) noIndex) ≡ indexNumbers (graph (begun c))
+lent : (c : tie.After-build_index) → length (take (size c) noIndex) ≡ indexNumbers (graph (begun c))
 lent c =
-    let is = (counted c).index-numbers.ensures in
+    let is = (counted c).index_numbers-k.ensures in
     sym (zeros-lent 0 2177 (index-fits (graph (begun c)) (begun c).requires.0 is)) ∙ is
 
-back : (c : tie.After-build-index) → PartBack (size c) noIndex c.build-index.new.1.1.1.1.0
+back : (c : tie.After-build_index) → PartBack (size c) noIndex c.build_index.new.1.1.1.1.0
 back c =
-    came-back (size c) noIndex (index-fits (graph (begun c)) (begun c).requires.0 (counted c).index-numbers.ensures) c.build-index.auto.1.1.1.1.0
+    came-back (size c) noIndex (index-fits (graph (begun c)) (begun c).requires.0 (counted c).index_numbers-k.ensures) c.build_index.auto.1.1.1.1.0
 
-slice-aggregate-build-index : tie.Need-slice-aggregate-build-index
+slice-aggregate-build-index : tie.Need-slice_bounds-build_index-end
 slice-aggregate-build-index c =
     let s = c.before.before.before.before.before in
-    zeros-lent 0 2177 (index-fits (graph s) s.requires.0 c.before.index-numbers.ensures)
+    zeros-lent 0 2177 (index-fits (graph s) s.requires.0 c.index_numbers-k.ensures)
 
-array-share-prefix-index : tie.Need-array-share-prefix-index
-array-share-prefix-index c = (back c.before.before.before).room
+array-share-prefix-index : tie.Need-slice_bounds-index-end-in-Indexed
+array-share-prefix-index c = (back c.before.before).room
 
-slice-aggregate-solve-indexed : tie.Need-slice-aggregate-solve-indexed
-slice-aggregate-solve-indexed c = (back c.before.before.before.before).long
+slice-aggregate-solve-indexed : tie.Need-slice_bounds-solve_indexed-end
+slice-aggregate-solve-indexed c = (back c.before.before.before).long
 
-returns : tie.Need-returns
+returns : tie.Need-returns-in-Refused
 returns c =
-    let b = c.before.before.before.before.before.before.before.before in
+    let b = c.before.before.before.before.before.before in
     let s = begun b in
-    index-refused (graph s) s.args.bound.now (lent b) b.build-index.ensures.0 c.before.before.before.before.before.refusal.given.1 s.pre.1
-    c.before.before.Put-refused.ensures
+    index-refused (graph s) s.args.bound.now (lent b) b.build_index.ensures.0 c.in-Refused.is s.requires.1
+    c.put_refused.ensures
 
-returns-2 : tie.Need-returns-2
+returns-2 : tie.Need-returns-in-Indexed
 returns-2 c =
-    let b = c.before.before.before.before.before.before.before.before in
+    let b = c.before.before.before.before.before.before.before in
     let s = begun b in
-    let done = b.build-index.ensures in
-    index-solved (graph s) s.args.bound.now (lent b) done.0 c.before.before.before.before.before.enum_told.given.1 ((back b).same ∙ done.1)
-    c.before.before.solve-indexed.ensures
+    let done = b.build_index.ensures in
+    index-solved (graph s) s.args.bound.now (lent b) done.0 c.in-Indexed.is ((back b).same ∙ done.1)
+    c.solve_indexed.ensures
 
-pub solve-problem-spec : {M : Type 1} → statement M
-solve-problem-spec =
+pub solve_problem_spec : {M : Type 1} → statement M
+solve_problem_spec =
     tie.close
     (tie.spec
     (λ c κs. search rules)

@@ -10,48 +10,48 @@ use borrow.Author.Rules.{rules}
 use Rattle.text.proofs.Cursor.last_integer.Statement.{statement}
 use Rattle.text.proofs.Cursor.last_integer.Tie as tie
 
-returns : tie.Need-returns
+returns : tie.Need-returns-in_default
 returns c =
-    let next-integer = c.before.before.next-integer in
-    let args = c.before.before.before.before.args in
+    let next-integer = c.next_integer in
+    let args = c.args in
     sym
     (one-bad (integer args.rules) _
-    (spoilt (integer args.rules) args.line.now args.self (sym (ap next_integer_says c.enum_told.given.1) ∙ next-integer.ensures)))
+    (spoilt (integer args.rules) args.line.now args.self (sym (ap next_integer_says c.in_default.is) ∙ next-integer.ensures)))
 
-no-words-requires : tie.Need-no-words-requires
+no-words-requires : tie.Need-no_words-requires
 no-words-requires c κs =
-    let at-next-integer = c.before.before.before in
+    let at-next-integer = c.before in
     let start = at-next-integer.before.before in
     (took (integer start.args.rules) start.args.line.now start.args.self (integer-nil start.args.rules) start.requires _ _
-    (sym (ap next_integer_says c.before.value.given.1) ∙ at-next-integer.next-integer.ensures)).inside
+    (sym (ap next_integer_says c.in-Is.is) ∙ at-next-integer.next_integer.ensures)).inside
 
-returns-2 : tie.Need-returns-2
+returns-2 : tie.Need-returns-then-no_words
 returns-2 c =
-    let at_value = c.before.before.before in
-    let at-next-integer = at_value.before.before in
+    let at_value = c.before.before in
+    let at-next-integer = at_value.before in
     let start = at-next-integer.before.before in
     rw
     (to_z-of_z {w = w32}
     (integer-fits start.args.rules _ _
     (took (integer start.args.rules) start.args.line.now start.args.self (integer-nil start.args.rules) start.requires _ _
-    (sym (ap next_integer_says at_value.value.given.1) ∙ at-next-integer.next-integer.ensures)).value))
+    (sym (ap next_integer_says at_value.in-Is.is) ∙ at-next-integer.next_integer.ensures)).value))
     (one_last (integer start.args.rules) start.args.line.now _ _ _
     (took (integer start.args.rules) start.args.line.now start.args.self (integer-nil start.args.rules) start.requires _ _
-    (sym (ap next_integer_says at_value.value.given.1) ∙ at-next-integer.next-integer.ensures)) _
-    (sym c.before.no_words.ensures ∙ c.if1.true))
+    (sym (ap next_integer_says at_value.in-Is.is) ∙ at-next-integer.next_integer.ensures)) _
+    (sym c.no_words.ensures ∙ c.if-no_words.true))
 
-returns-3 : tie.Need-returns-3
+returns-3 : tie.Need-returns-else-no_words
 returns-3 c =
-    let at_value = c.before.before.before in
-    let at-next-integer = at_value.before.before in
+    let at_value = c.before.before in
+    let at-next-integer = at_value.before in
     let start = at-next-integer.before.before in
     one_last (integer start.args.rules) start.args.line.now _ _ _
     (took (integer start.args.rules) start.args.line.now start.args.self (integer-nil start.args.rules) start.requires _ _
-    (sym (ap next_integer_says at_value.value.given.1) ∙ at-next-integer.next-integer.ensures)) _
-    (sym c.before.no_words.ensures ∙ c.if1.false)
+    (sym (ap next_integer_says at_value.in-Is.is) ∙ at-next-integer.next_integer.ensures)) _
+    (sym c.no_words.ensures ∙ c.if-no_words.false)
 
-pub last-integer-spec : {M : Type 1} → statement M
-last-integer-spec =
+pub last_integer_spec : {M : Type 1} → statement M
+last_integer_spec =
     tie.close
     (tie.spec
     (λ c κs. search rules)

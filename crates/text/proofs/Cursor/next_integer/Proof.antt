@@ -11,31 +11,31 @@ use borrow.Author.Rules.{rules}
 use Rattle.text.proofs.Cursor.next_integer.Statement.{statement}
 use Rattle.text.proofs.Cursor.next_integer.Tie as tie
 
-returns : tie.Need-returns
+returns : tie.Need-returns-in_default
 returns c =
-    let read-integer = c.before.before.read-integer in
-    let at_word = c.before.before.before in
+    let read-integer = c.read_integer in
+    let at_word = c.before.before in
     let at-skip-blanks = at_word.before in
-    let args = at-skip-blanks.before.before.args in
+    let args = at-skip-blanks.args in
     next-bad (integer args.rules) args.line.now args.self _
-    (word_is args.line.now args.self.at at-skip-blanks.skip-blanks.ensures.0 at_word.word.ensures.0)
-    (sym read-integer.ensures ∙ ap integer_says c.enum_told.given.1)
+    (word_is args.line.now args.self.at at-skip-blanks.skip_blanks-start.ensures.0 at_word.word-w.ensures.0)
+    (sym read-integer.ensures ∙ ap integer_says c.in_default.is)
 
-returns-2 : tie.Need-returns-2
+returns-2 : tie.Need-returns
 returns-2 c =
     let value = c.before.value in
-    let at-read-integer = c.before.before.before in
+    let at-read-integer = c.before in
     let at_word = at-read-integer.before in
     let at-skip-blanks = at_word.before in
-    let args = at-skip-blanks.before.before.args in
-    rw (to_z-of_z {w = w32} (integer-fits args.rules _ _ (sym at-read-integer.read-integer.ensures ∙ ap integer_says value.given.1)))
+    let args = at-skip-blanks.args in
+    rw (to_z-of_z {w = w32} (integer-fits args.rules _ _ (sym at-read-integer.read_integer.ensures ∙ ap integer_says value.given.1)))
     (next-is (integer args.rules) args.line.now args.self _
-    (word_is args.line.now args.self.at at-skip-blanks.skip-blanks.ensures.0 at_word.word.ensures.0) _
-    (sym at-read-integer.read-integer.ensures ∙ ap integer_says value.given.1) _
-    (word_past args.line.now args.self.at at-skip-blanks.skip-blanks.ensures.0 at_word.word.ensures.0))
+    (word_is args.line.now args.self.at at-skip-blanks.skip_blanks-start.ensures.0 at_word.word-w.ensures.0) _
+    (sym at-read-integer.read_integer.ensures ∙ ap integer_says value.given.1) _
+    (word_past args.line.now args.self.at at-skip-blanks.skip_blanks-start.ensures.0 at_word.word-w.ensures.0))
 
-pub next-integer-spec : {M : Type 1} → statement M
-next-integer-spec =
+pub next_integer_spec : {M : Type 1} → statement M
+next_integer_spec =
     tie.close
     (tie.spec
     (λ c κs. search rules)

@@ -8,29 +8,29 @@ use borrow.Author.Rules.{rules}
 use Rattle.text.proofs.Cursor.next_natural.Statement.{statement}
 use Rattle.text.proofs.Cursor.next_natural.Tie as tie
 
-returns : tie.Need-returns
+returns : tie.Need-returns-in_default
 returns c =
-    let read-natural = c.before.before.read-natural in
-    let at_word = c.before.before.before in
+    let read-natural = c.read_natural in
+    let at_word = c.before.before in
     let at-skip-blanks = at_word.before in
-    let args = at-skip-blanks.before.before.args in
+    let args = at-skip-blanks.args in
     next-bad (natural args.rules) args.line.now args.self _
-    (word_is args.line.now args.self.at at-skip-blanks.skip-blanks.ensures.0 at_word.word.ensures.0)
-    (sym read-natural.ensures ∙ ap natural_says c.enum_told.given.1)
+    (word_is args.line.now args.self.at at-skip-blanks.skip_blanks-start.ensures.0 at_word.word-w.ensures.0)
+    (sym read-natural.ensures ∙ ap natural_says c.in_default.is)
 
-returns-2 : tie.Need-returns-2
+returns-2 : tie.Need-returns
 returns-2 c =
-    let at-read-natural = c.before.before.before in
+    let at-read-natural = c.before in
     let at_word = at-read-natural.before in
     let at-skip-blanks = at_word.before in
-    let args = at-skip-blanks.before.before.args in
+    let args = at-skip-blanks.args in
     next-is (natural args.rules) args.line.now args.self _
-    (word_is args.line.now args.self.at at-skip-blanks.skip-blanks.ensures.0 at_word.word.ensures.0) _
-    (sym at-read-natural.read-natural.ensures ∙ ap natural_says c.before.value.given.1) _
-    (word_past args.line.now args.self.at at-skip-blanks.skip-blanks.ensures.0 at_word.word.ensures.0)
+    (word_is args.line.now args.self.at at-skip-blanks.skip_blanks-start.ensures.0 at_word.word-w.ensures.0) _
+    (sym at-read-natural.read_natural.ensures ∙ ap natural_says c.in-Is.is) _
+    (word_past args.line.now args.self.at at-skip-blanks.skip_blanks-start.ensures.0 at_word.word-w.ensures.0)
 
-pub next-natural-spec : {M : Type 1} → statement M
-next-natural-spec =
+pub next_natural_spec : {M : Type 1} → statement M
+next_natural_spec =
     tie.close
     (tie.spec
     (λ c κs. search rules)

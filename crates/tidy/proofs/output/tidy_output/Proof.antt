@@ -11,50 +11,50 @@ use Rattle.tidy.proofs.output.tidy_output.Statement.{statement}
 use Rattle.tidy.proofs.output.tidy_output.Tie as tie
 
 -- The start, when the reader has answered, and that the buffer has its length.
-abbrev begun : tie.After-read-graph → tie.Start
+abbrev begun : tie.After-read_graph → tie.Start
 begun c = c.before.before.before.before.before.before.before
 
-long : (c : tie.After-read-graph) → length (begun c).args.out.now ≡ 32768
-long c = c.before.before.before.before.if1.false
+long : (c : tie.After-read_graph) → length (begun c).args.out.now ≡ 32768
+long c = c.if-out-ne-LONGEST_TEXT.false
 
 -- The graph that was read stands in the three arrays.
-stored : (c : tie.After-s) →
-    let r = c.before.before.before.before.before in
-    let d = r.read-graph in
-    GraphStored (lentGraph (begun r).args.sheet.now) c.s.given.0.0 d.new.1.0 d.new.1.1.0 d.new.1.1.1.0
+stored : (c : tie.In-Graph-2) →
+    let r = c.before.before.before.before in
+    let d = r.read_graph in
+    GraphStored (lentGraph (begun r).args.sheet.now) c.in-Graph.s d.new.1.0 d.new.1.1.0 d.new.1.1.1.0
 stored c =
-    let r = c.before.before.before.before.before in
-    let d = r.read-graph in
-    graph-stored (sheet-whole (begun r).args.sheet.now) d.ensures.0 c.s.given.1 d.ensures.1.0 d.ensures.1.1.0 d.ensures.1.1.1
+    let r = c.before.before.before.before in
+    let d = r.read_graph in
+    graph-stored (sheet-whole (begun r).args.sheet.now) d.ensures.0 c.in-Graph.is d.ensures.1.0 d.ensures.1.1.0 d.ensures.1.1.1
     d.auto.1.0 d.auto.1.1.0 d.auto.1.1.1.0
 
-returns : tie.Need-returns
+returns : tie.Need-returns-then-out-ne-LONGEST_TEXT
 returns c =
-    let a = c.before.before.before.before.before.before.before.args in
-    nothing_left 32768 (tidyOutput a.sheet.now) c.before.before.before.before.if1.true c.before.before.clear-bytes.ensures
+    let a = c.args in
+    nothing_left 32768 (tidyOutput a.sheet.now) c.if-out-ne-LONGEST_TEXT.true c.clear_bytes.ensures
 
-tidy-read-requires : tie.Need-tidy-read-requires
-tidy-read-requires c κs = long c.before.before.before.before.before.before.before.before.before.before.before
+tidy-read-requires : tie.Need-tidy_read-requires
+tidy-read-requires c κs = long c.before.before.before.before.before.before.before.before.before
 
-returns-2 : tie.Need-returns-2
+returns-2 : tie.Need-returns-in-Refused
 unfolding tidyOutput
 returns-2 c =
-    let at-refusal = c.before.before.before.before.before in
-    let r = at-refusal.before.before.before.before.before in
+    let at-refusal = c.before.before.before.before in
+    let r = at-refusal.before.before.before.before in
     answer-inside
     (run_ends wholeTextRoom (λ text. text) tidyRun
-    (sheet-came (begun r).args.sheet.now (graph-refused r.read-graph.ensures.0 at-refusal.refusal.given.1))
-    (line-fits 32768 (omega arith) (long r)) c.before.before.Put-refused.ensures)
+    (sheet-came (begun r).args.sheet.now (graph-refused r.read_graph.ensures.0 at-refusal.in-Refused.is))
+    (line-fits 32768 (omega arith) (long r)) c.put_refused.ensures)
 
-returns-3 : tie.Need-returns-3
+returns-3 : tie.Need-returns-in-Graph
 unfolding tidyOutput
 returns-3 c =
-    let at-s = c.before.before.before.before.before.before.before.before.before in
-    let sheet = (begun at-s.before.before.before.before.before).args.sheet.now in
-    answer-inside (run-goes wholeTextRoom (λ text. text) tidyRun (sheet-came sheet (stored at-s).same) c.before.before.tidy-read.ensures)
+    let at-s = c.before.before.before.before.before.before.before.before in
+    let sheet = (begun at-s.before.before.before.before).args.sheet.now in
+    answer-inside (run-goes wholeTextRoom (λ text. text) tidyRun (sheet-came sheet (stored at-s).same) c.tidy_read.ensures)
 
-pub tidy-output-spec : {M : Type 1} → statement M
-tidy-output-spec =
+pub tidy_output_spec : {M : Type 1} → statement M
+tidy_output_spec =
     tie.close
     (tie.spec
     (λ c κs. search rules)
@@ -68,12 +68,12 @@ tidy-output-spec =
     (λ c κs. search rules)
     (λ c. search rules)
     (λ c. search rules)
+    (λ c. omega (arith, stored c.before))
+    (λ c. simp length-take (omega (arith, stored c.before.before)))
     (λ c. omega (arith, stored c.before.before))
     (λ c. simp length-take (omega (arith, stored c.before.before.before)))
     (λ c. omega (arith, stored c.before.before.before))
     (λ c. simp length-take (omega (arith, stored c.before.before.before.before)))
-    (λ c. omega (arith, stored c.before.before.before.before))
-    (λ c. simp length-take (omega (arith, stored c.before.before.before.before.before)))
     tidy-read-requires
     (λ c. search rules)
     returns-2

@@ -10,20 +10,20 @@ use Rattle.tidy.proofs.output.tidy_read.Tie as tie
 abbrev graph : tie.Start → Graph
 graph s = graph_of s.args.s s.args.row.now s.args.column.now s.args.weight.now
 
-returns : tie.Need-returns
+returns : tie.Need-returns-in-Written
 returns c =
-    let s = c.before.before.before.before.before.before.before.before.before.before in
-    let done = c.before.before.before.before.before.tidy-graph.ensures in
-    text-left (tidyGraph (graph s)) s.requires done.0 c.before.length.given.1 done.1
+    let s = c.before.before.before.before.before.before.before.before in
+    let done = c.tidy_graph.ensures in
+    text-left (tidyGraph (graph s)) s.requires done.0 c.in-Written.is done.1
 
-returns-2 : tie.Need-returns-2
+returns-2 : tie.Need-returns-in-Refused
 returns-2 c =
-    let s = c.before.before.before.before.before.before.before.before.before.before.before.before.before.before in
-    let d = c.before.before.before.before.before.before.before.before.before.tidy-graph in
-    refusal-left (tidyGraph (graph s)) s.requires d.ensures.0 c.before.before.before.before.before.refusal.given.1 d.auto.1.1.1.1.0 c.before.before.Put-refused.ensures
+    let s = c.before.before.before.before.before.before.before.before.before.before.before.before in
+    let d = c.tidy_graph in
+    refusal-left (tidyGraph (graph s)) s.requires d.ensures.0 c.in-Refused.is d.auto.1.1.1.1.0 c.put_refused.ensures
 
-pub tidy-read-spec : {M : Type 1} → statement M
-tidy-read-spec =
+pub tidy_read_spec : {M : Type 1} → statement M
+tidy_read_spec =
     tie.close
     (tie.spec
     (λ c κs. search rules)

@@ -10,24 +10,24 @@ use Rattle.to_dimacs.proofs.output.write_problem.Tie as tie
 abbrev graph : tie.Start → Graph
 graph s = graph_of s.args.s s.args.row.now s.args.column.now s.args.weight.now
 
-returns : tie.Need-returns
+returns : tie.Need-returns-in-Written
 returns c =
-    let call = c.before.before.before.before.before in
+    let call = c.before.before.before in
     let s = call.before.before.before.before.before in
-    let done = call.write-assignment.ensures in
-    text-left (writeAssignment (graph s) s.args.bound.now) s.requires done.0 c.before.length.given.1 done.1
+    let done = call.write_assignment.ensures in
+    text-left (writeAssignment (graph s) s.args.bound.now) s.requires done.0 c.in-Written.is done.1
 
-returns-2 : tie.Need-returns-2
+returns-2 : tie.Need-returns-in-Refused
 returns-2 c =
-    let refusal = c.before.before.before.before.before in
-    let call = refusal.before.before.before.before in
+    let refusal = c.before.before.before.before in
+    let call = refusal.before.before.before in
     let s = call.before.before.before.before.before in
-    let d = call.write-assignment in
-    refusal-left (writeAssignment (graph s) s.args.bound.now) s.requires d.ensures.0 refusal.refusal.given.1 d.auto.1.1.1.1.1.0
-    c.before.before.Put-refused.ensures
+    let d = call.write_assignment in
+    refusal-left (writeAssignment (graph s) s.args.bound.now) s.requires d.ensures.0 refusal.in-Refused.is d.auto.1.1.1.1.1.0
+    c.put_refused.ensures
 
-pub write-problem-spec : {M : Type 1} → statement M
-write-problem-spec =
+pub write_problem_spec : {M : Type 1} → statement M
+write_problem_spec =
     tie.close
     (tie.spec
     (λ c κs. search rules)
