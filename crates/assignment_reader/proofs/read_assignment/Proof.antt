@@ -58,7 +58,7 @@ same-length-5 : tie.Need-shape_of-row-in-Graph
 same-length-5 c =
     let at-read-assignment-lines = c.before.before.before.before.before.before.before.before.before.before in
     let clear = at-read-assignment-lines.clear in
-    at-read-assignment-lines.read_assignment_lines.auto.1.0 ∙ row_kept clear.ensures
+    at-read-assignment-lines.read_assignment_lines.auto.row ∙ row_kept clear.ensures
 
 returns-2 : tie.Need-returns-in-Graph
 returns-2 c =
@@ -75,21 +75,21 @@ same-length-9 c =
     let at-clear2 = c.before.before.before.before.before in
     let at-read-assignment-lines = at-clear2.before.before.before.before.before.before.before.before.before.before in
     let clear = at-read-assignment-lines.clear in
-    at-clear2.clear-in-Refused-read_assignment_lines.auto.0 ∙ at-read-assignment-lines.read_assignment_lines.auto.1.0 ∙ row_kept clear.ensures
+    at-clear2.clear-in-Refused-read_assignment_lines.auto.row ∙ at-read-assignment-lines.read_assignment_lines.auto.row ∙ row_kept clear.ensures
 
 same-length-10 : tie.Need-shape_of-column-in-Refused-read_assignment_lines
 same-length-10 c =
     let at-clear2 = c.before.before.before.before.before in
     let at-read-assignment-lines = at-clear2.before.before.before.before.before.before.before.before.before.before in
     let clear = at-read-assignment-lines.clear in
-    at-clear2.clear-in-Refused-read_assignment_lines.auto.1.0 ∙ at-read-assignment-lines.read_assignment_lines.auto.1.1.0 ∙ column_kept clear.ensures
+    at-clear2.clear-in-Refused-read_assignment_lines.auto.column ∙ at-read-assignment-lines.read_assignment_lines.auto.column ∙ column_kept clear.ensures
 
 same-length-11 : tie.Need-shape_of-weight-in-Refused-read_assignment_lines
 same-length-11 c =
     let at-clear2 = c.before.before.before.before.before in
     let at-read-assignment-lines = at-clear2.before.before.before.before.before.before.before.before.before.before in
     let clear = at-read-assignment-lines.clear in
-    at-clear2.clear-in-Refused-read_assignment_lines.auto.1.1.0 ∙ at-read-assignment-lines.read_assignment_lines.auto.1.1.1.0 ∙ weight-kept clear.ensures
+    at-clear2.clear-in-Refused-read_assignment_lines.auto.weight ∙ at-read-assignment-lines.read_assignment_lines.auto.weight ∙ weight-kept clear.ensures
 
 returns-3 : tie.Need-returns-in-Refused-read_assignment_lines
 returns-3 c =

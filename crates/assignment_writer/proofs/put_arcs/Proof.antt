@@ -47,7 +47,7 @@ loop-again c =
     let s = test.before.before.before.before.before in
     let P = s.requires.1 in
     lines_more (arcs_growing (graph s)) (length s.args.row.now) 19 64 test.loop-e.invariant lt (arc_text_le P _ (omega (arith, lt, P.sound.row_long)))
-    p.auto.0 p.ensures
+    p.auto.out p.ensures
 
 same_length : tie.Need-shape_of-out invariant-loop decreases-loop
 same_length c = c.loop-e.invariant.long

@@ -13,7 +13,7 @@ abbrev begun : tie.After-clear_bytes → tie.Start
 begun c = c.before.before.before.before.before
 
 cleared : (c : tie.After-clear_bytes) → length c.clear_bytes.new.0 ≡ longest_text
-cleared c = c.clear_bytes.auto.0 ∙ (begun c).requires.0
+cleared c = c.clear_bytes.auto.out ∙ (begun c).requires.0
 
 put-sources-requires : tie.Need-put_sources-b-requires
 put-sources-requires c κs =
@@ -21,7 +21,7 @@ put-sources-requires c κs =
     let z = problem.before.before.before.before in
     let P = (begun z).requires.1 in
     let p = problem.put_problem-a in
-    (P.sound.sizes.rows.greatest, sources_room P (cleared z) p.ensures p.auto.0)
+    (P.sound.sizes.rows.greatest, sources_room P (cleared z) p.ensures p.auto.out)
 
 put-arcs-requires : tie.Need-put_arcs-requires
 put-arcs-requires c κs =
@@ -31,7 +31,7 @@ put-arcs-requires c κs =
     let P = (begun z).requires.1 in
     let p = problem.put_problem-a in
     let q = sources.put_sources-b in
-    (arcs_room P (cleared z) p.ensures p.auto.0 q.ensures q.auto.0, P)
+    (arcs_room P (cleared z) p.ensures p.auto.out q.ensures q.auto.out, P)
 
 returns : tie.Need-returns
 returns c =
@@ -42,7 +42,7 @@ returns c =
     let s = begun z in
     let p = problem.put_problem-a in
     let q = sources.put_sources-b in
-    text_written s.requires.1 (cleared z) p.ensures p.auto.0 q.ensures q.auto.0 arcs.put_arcs.ensures
+    text_written s.requires.1 (cleared z) p.ensures p.auto.out q.ensures q.auto.out arcs.put_arcs.ensures
     (z.clear_bytes.ensures ∙ ap (λ (n : ℕ). replicate n 0) s.requires.0)
 
 pub put_assignment_spec : {M : Type 1} → statement M

@@ -28,7 +28,7 @@ loop-again c =
     let test = c.before.before.before.before in
     let lt = test.loop-v-test.true in
     let s = test.before.before.before in
-    lines_more sources_growing s.args.rows 6 32 test.loop-v.invariant lt (source_text_few _ (omega (arith, s.requires.0, lt))) p.auto.0 p.ensures
+    lines_more sources_growing s.args.rows 6 32 test.loop-v.invariant lt (source_text_few _ (omega (arith, s.requires.0, lt))) p.auto.out p.ensures
 
 same_length : tie.Need-shape_of-out invariant-loop decreases-loop
 same_length c = c.loop-v.invariant.long

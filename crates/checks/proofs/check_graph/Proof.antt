@@ -46,31 +46,31 @@ ends-again c is =
 
 refused-item-requires : tie.Need-refused_item-requires
 refused-item-requires c κs =
-    let e = c.before.e in
+    let e = c.in-At in
     let at-lowest-ends = c.before in
     let at-then1 = at-lowest-ends.before in
     let beginning = at-then1.before.before.before.before in
-    among (graph beginning) (ends_kept (graph beginning)) e.given.0.0 (sizes at-then1) (ends-say at-lowest-ends e.given.1)
+    among (graph beginning) (ends_kept (graph beginning)) e.e (sizes at-then1) (ends-say at-lowest-ends e.is)
 
 returns : tie.Need-returns-in-At
 returns c =
-    let e = c.before.before.e in
+    let e = c.in-At in
     let at-lowest-ends = c.before.before in
     let at-then1 = at-lowest-ends.before in
     let beginning = at-then1.before.before.before.before in
-    c.refused_item.ensures ∙ ends_refused (graph beginning) (yields tt) (sizes at-then1) e.given.0.0 (ends-say at-lowest-ends e.given.1)
+    c.refused_item.ensures ∙ ends_refused (graph beginning) (yields tt) (sizes at-then1) e.e (ends-say at-lowest-ends e.is)
 
 refused-item-requires-2 : tie.Need-refused_item-requires-in-At-lowest_weight
 refused-item-requires-2 c κs =
-    let e2 = c.before.e2 in
+    let e2 = c.in-At-lowest_weight in
     let at-lowest-weight = c.before in
     let at-then1 = at-lowest-weight.before.before.before in
     let beginning = at-then1.before.before.before.before in
-    among (graph beginning) (weight_kept (graph beginning)) e2.given.0.0 (sizes at-then1) (weights-say at-lowest-weight e2.given.1)
+    among (graph beginning) (weight_kept (graph beginning)) e2.e (sizes at-then1) (weights-say at-lowest-weight e2.is)
 
 returns-2 : tie.Need-returns-in-At-lowest_weight
 returns-2 c =
-    let e2 = c.before.before.e2 in
+    let e2 = c.in-At-lowest_weight in
     let at-lowest-weight = c.before.before in
     let at-enum-told = at-lowest-weight.before in
     let at-lowest-ends = at-enum-told.before in
@@ -78,7 +78,7 @@ returns-2 c =
     let beginning = at-then1.before.before.before.before in
     c.refused_item-in-At-lowest_weight.ensures
     ∙ weight_refused (graph beginning) (yields tt) (sizes at-then1) (ends-say at-lowest-ends at-enum-told.in_default.is)
-    e2.given.0.0 (weights-say at-lowest-weight e2.given.1)
+    e2.e (weights-say at-lowest-weight e2.is)
 
 lowest-repeat-requires : tie.Need-lowest_repeat-requires
 lowest-repeat-requires c κs =
@@ -90,15 +90,15 @@ lowest-repeat-requires c κs =
 
 refused-item-requires-3 : tie.Need-refused_item-requires-in-At-lowest_repeat
 refused-item-requires-3 c κs =
-    let e3 = c.before.e3 in
+    let e3 = c.in-At-lowest_repeat in
     let at-lowest-repeat = c.before in
     let at-then1 = at-lowest-repeat.before.before.before.before.before in
     let beginning = at-then1.before.before.before.before in
-    among (graph beginning) (new_ends (graph beginning)) e3.given.0.0 (sizes at-then1) (ends-again at-lowest-repeat e3.given.1)
+    among (graph beginning) (new_ends (graph beginning)) e3.e (sizes at-then1) (ends-again at-lowest-repeat e3.is)
 
 returns-3 : tie.Need-returns-in-At-lowest_repeat
 returns-3 c =
-    let e3 = c.before.before.e3 in
+    let e3 = c.in-At-lowest_repeat in
     let at-lowest-repeat = c.before.before in
     let at-enum-told2 = at-lowest-repeat.before in
     let at-lowest-weight = at-enum-told2.before in
@@ -108,7 +108,7 @@ returns-3 c =
     let beginning = at-then1.before.before.before.before in
     c.refused_item-in-At-lowest_repeat.ensures
     ∙ same-refused (graph beginning) (yields tt) (sizes at-then1) (ends-say at-lowest-ends at-enum-told.in_default.is)
-    (weights-say at-lowest-weight at-enum-told2.in_default-lowest_weight.is) e3.given.0.0 (ends-again at-lowest-repeat e3.given.1)
+    (weights-say at-lowest-weight at-enum-told2.in_default-lowest_weight.is) e3.e (ends-again at-lowest-repeat e3.is)
 
 returns-4 : tie.Need-returns-in_default-lowest_repeat
 returns-4 c =

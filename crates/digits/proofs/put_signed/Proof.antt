@@ -11,7 +11,7 @@ put-decimal-requires : tie.Need-put_decimal-requires
 put-decimal-requires c κs = simp length-set (omega (arith, c.requires))
 
 same_length : tie.Need-shape_of-out-then-z-lt0
-same_length c = c.put_decimal.auto.0 ∙ simp length-set
+same_length c = c.put_decimal.auto.out ∙ simp length-set
 
 returns : tie.Need-returns-then-z-lt0
 returns c =

@@ -68,23 +68,23 @@ abbrev fourth : tie.After-join_integers-2 → tie.After-join_integers
 fourth c = c.before.before.before
 
 rows_back : (c : tie.After-join_naturals) → PartBack (size (first c)) (replicate 1024 0) c.join_naturals.new.1.1.0
-rows_back c = came_back (size (first c)) (replicate 1024 0) (size_fits (first c)) c.join_naturals.auto.1.1.0
+rows_back c = came_back (size (first c)) (replicate 1024 0) (size_fits (first c)) c.join_naturals.auto.out
 
 columns-back : (c : tie.After-join_naturals-2) → PartBack (size (first (second c))) (replicate 1024 0) c.join_naturals-2.new.1.1.0
 columns-back c =
     let v = first (second c) in
-    came_back (size v) (replicate 1024 0) (size_fits v) c.join_naturals-2.auto.1.1.0
+    came_back (size v) (replicate 1024 0) (size_fits v) c.join_naturals-2.auto.out
 
 weights-back : (c : tie.After-join_integers) → PartBack (size (first (second (third c)))) (replicate 1024 (pos 0)) c.join_integers.new.1.1.0
 weights-back c =
     let v = first (second (third c)) in
-    came_back (size v) (replicate 1024 (pos 0)) (size_fits v) c.join_integers.auto.1.1.0
+    came_back (size v) (replicate 1024 (pos 0)) (size_fits v) c.join_integers.auto.out
 
 bounds-back : (c : tie.After-join_integers-2) →
     PartBack (order (first (second (third (fourth c))))) (replicate 128 (pos 0)) c.join_integers-2.new.1.1.0
 bounds-back c =
     let v = first (second (third (fourth c))) in
-    came_back (order v) (replicate 128 (pos 0)) (order-fits v) c.join_integers-2.auto.1.1.0
+    came_back (order v) (replicate 128 (pos 0)) (order-fits v) c.join_integers-2.auto.out
 
 -- All of it is the doubled graph, with its bounds.
 module _ (c : tie.After-join_integers-2) where

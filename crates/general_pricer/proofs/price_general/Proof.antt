@@ -37,7 +37,7 @@ price-doubled-requires c κs =
     let a = s.args in
     let says = sym (tested cleared).check_general-check.ensures ∙ ap check_says c.in_default.is in
     let P = general-passed (graph s) a.bound.now (length a.vertex-price.now) (length a.edge-price.now) says in
-    (P.doublable, (P.bounded, ((first cleared).clear_integers.auto.0 ∙ P.vertex_long, cleared.clear_integers-2.auto.0 ∙ P.edge_long)))
+    (P.doublable, (P.bounded, ((first cleared).clear_integers.auto.out ∙ P.vertex_long, cleared.clear_integers-2.auto.out ∙ P.edge_long)))
 
 returns-2 : tie.Need-returns
 returns-2 c =
@@ -47,7 +47,7 @@ returns-2 c =
     let priced = c.price_doubled in
     let kept = priced.auto.1.1.1.1.1 in (
       ap told (sym says),
-      left-priced says priced.ensures (kept.0 ∙ (first cleared).clear_integers.auto.0) (kept.1.0 ∙ cleared.clear_integers-2.auto.0),
+      left-priced says priced.ensures (kept.0 ∙ (first cleared).clear_integers.auto.out) (kept.1.0 ∙ cleared.clear_integers-2.auto.out),
     )
 
 pub price_general_spec : {M : Type 1} → statement M

@@ -13,7 +13,7 @@ room : (c : tie.After-fill_index) → c.index_numbers-k.result ≤ length c.fill
 room c =
     let counted = c.before.before in
     let sizes = counted.requires.0.passed.sound.sizes in
-    omega (arith, counted.index_numbers-k.ensures, sizes.order, sizes.few, c.fill_index.auto.1.1.1.0)
+    omega (arith, counted.index_numbers-k.ensures, sizes.order, sizes.few, c.fill_index.auto.index)
 
 slice-aggregate-optimise : tie.Need-slice_bounds-optimise-end
 slice-aggregate-optimise c = let filled = c.before.before in first_long _ filled.fill_index.new.1.1.1.0 (room filled)

@@ -32,10 +32,10 @@ few : (c : tie.After-solve_prices) → order c ≤ 128
 few c = omega (arith, (counted c).vertex_count-n.ensures, (begun c).requires.0.passed.sound.sizes.order)
 
 vertices-back : (c : tie.After-solve_prices) → PartBack (order c) (zeros 128) c.solve_prices.new.1.1.1.1.1.0
-vertices-back c = came_back (order c) (zeros 128) (few c) c.solve_prices.auto.1.1.1.1.1.0
+vertices-back c = came_back (order c) (zeros 128) (few c) c.solve_prices.auto.vertex_price
 
 edges-back : (c : tie.After-solve_prices) → PartBack (size c) (zeros 1024) c.solve_prices.new.1.1.1.1.1.1.0
-edges-back c = came_back (size c) (zeros 1024) (begun c).requires.0.passed.sound.sizes.few c.solve_prices.auto.1.1.1.1.1.1.0
+edges-back c = came_back (size c) (zeros 1024) (begun c).requires.0.passed.sound.sizes.few c.solve_prices.auto.edge_price
 
 slice-aggregate-solve-prices : tie.Need-slice_bounds-solve_prices-end
 slice-aggregate-solve-prices c =
@@ -85,7 +85,7 @@ returns c =
     let done = c.before.before.before.before.before.before.before.before.before.before in
     let a = c.sum_points in
     let b = c.sum_points-2 in
-    summed done.solve_prices.ensures _ _ _ _ _ _ (vertices-back done).same (edges-back done).same a.auto.1.0 b.auto.1.0 a.ensures b.ensures
+    summed done.solve_prices.ensures _ _ _ _ _ _ (vertices-back done).same (edges-back done).same a.auto.out b.auto.out a.ensures b.ensures
 
 pub sum_prices_spec : {M : Type 1} → statement M
 sum_prices_spec =

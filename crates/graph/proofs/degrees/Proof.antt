@@ -57,7 +57,7 @@ loop-again c =
     let at-loop = at-loop-test.before in
     let pre = at-loop.requires in
     let ends = at-ends-of.ends_of.ensures in
-    counted_more at-loop.loop-e.invariant (omega (arith, at-loop-test.loop-e-test.true, pre.0.row_long)) add-edge.auto.0 refl (sym ends.0)
+    counted_more at-loop.loop-e.invariant (omega (arith, at-loop-test.loop-e-test.true, pre.0.row_long)) add-edge.auto.degree refl (sym ends.0)
     (sym ends.1) add-edge.ensures
 
 returns : tie.Need-returns invariant-loop decreases-loop

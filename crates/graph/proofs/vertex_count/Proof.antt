@@ -10,8 +10,8 @@ enum_told c = search rules
 
 returns : tie.Need-returns-in-Bipartite
 returns c =
-    let enum_told = c.before.before.enum_told in
-    let s = c.args.s in sym (ap (λ k. vertices_of k s.rows s.columns) enum_told.given.1)
+    let enum_told = c.in-Bipartite in
+    let s = c.args.s in sym (ap (λ k. vertices_of k s.rows s.columns) enum_told.is)
 
 pub vertex_count_spec : {M : Type 1} → statement M
 vertex_count_spec =

@@ -61,9 +61,9 @@ returns-3 c =
     let passed = lent_passed args.rules args.field (length args.row.now) (length args.column.now) (length args.weight.now)
     args.text.now right _ at-check-text.check_text.ensures at-enum-told.in-Passed.is in
     whole_refused _ passed at-read-graph-lines.read_graph_lines.ensures at-r2.in-Refused-read_graph_lines.is
-    (cleared_again at-clear2.clear-in-Refused-read_graph_lines.ensures (at-read-graph-lines.read_graph_lines.auto.1.1.1.0 ∙ row_kept at_clear.clear.ensures)
-    (at-read-graph-lines.read_graph_lines.auto.1.1.1.1.0 ∙ column_kept at_clear.clear.ensures)
-    (at-read-graph-lines.read_graph_lines.auto.1.1.1.1.1.0 ∙ weight-kept at_clear.clear.ensures))
+    (cleared_again at-clear2.clear-in-Refused-read_graph_lines.ensures (at-read-graph-lines.read_graph_lines.auto.row ∙ row_kept at_clear.clear.ensures)
+    (at-read-graph-lines.read_graph_lines.auto.column ∙ column_kept at_clear.clear.ensures)
+    (at-read-graph-lines.read_graph_lines.auto.weight ∙ weight-kept at_clear.clear.ensures))
 
 pub read_graph_by_spec : {M : Type 1} → statement M
 read_graph_by_spec =

@@ -99,7 +99,7 @@ returns-3 c =
 returns-4 : tie.Need-returns-in-Refused-shape_on
 returns-4 c =
     let at-fault = c.before in
-    let fault = at-fault.fault in
+    let fault = at-fault.in-Refused-shape_on in
     let at-shape-on = at-fault.before in
     let at-start2 = at-shape-on.before.before in
     let at-size-line = at-start2.before in
@@ -113,7 +113,7 @@ returns-4 c =
     (header_is args.field _ at-header-on.header_on.ensures at-kind.in-Is.is) in
     read_refused _
     (size_stops L w at-size-line.size_line.ensures at-start2.in-At-size_line.is _
-    (sym at-shape-on.shape_on.ensures.0 ∙ ap shape_says fault.given.1) c.refused_at-in-Refused-shape_on.ensures)
+    (sym at-shape-on.shape_on.ensures.0 ∙ ap shape_says fault.is) c.refused_at-in-Refused-shape_on.ensures)
 
 returns-5 : tie.Need-returns-in-Is-shape_on
 returns-5 c =

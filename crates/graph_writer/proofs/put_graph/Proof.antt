@@ -21,7 +21,7 @@ loop-holds : tie.Need-loop-k-init invariant-loop decreases-loop
 loop-holds c =
     let s = c.before.before.before.before.before.before.before.before in
     let h = c.put_head-at in
-    edges-start s.requires.1 _ _ (head-room s.requires.1 s.args.out.now s.requires.0 h.ensures h.auto.0)
+    edges-start s.requires.1 _ _ (head-room s.requires.1 s.args.out.now s.requires.0 h.ensures h.auto.out)
 
 cast-e : tie.Need-overflow_cast-e invariant-loop decreases-loop
 cast-e c = omega (arith, c.shared_slice_known-3-1.given c.loop-k.k)
@@ -39,10 +39,10 @@ loop-again c =
     let l = c.loop-k in
     let lt = c.loop-k-test.true in
     let p = c.put_weighted_edge-at in
-    edges_more O l.k (omega arith) l.invariant p.auto.0 p.ensures
+    edges_more O l.k (omega arith) l.invariant p.auto.out p.ensures
 
 same_length : tie.Need-shape_of-out invariant-loop decreases-loop
-same_length c = c.loop-k.invariant.long ∙ c.put_head-at.auto.0
+same_length c = c.loop-k.invariant.long ∙ c.put_head-at.auto.out
 
 returns : tie.Need-returns invariant-loop decreases-loop
 returns c =

@@ -13,7 +13,7 @@ abbrev begun : tie.After-fill_own → tie.Start
 begun c = c.before.before.before.before.before.before
 
 room : (c : tie.After-fill_own) → (begun c).args.s.edges ≤ length c.fill_own.new.0
-room c = omega (arith, (begun c).requires.1.sound.sizes.few, c.fill_own.auto.0, length-replicate {A = ℕ} 1024 0)
+room c = omega (arith, (begun c).requires.1.sound.sizes.few, c.fill_own.auto.order, length-replicate {A = ℕ} 1024 0)
 
 slice-aggregate-put-graph : tie.Need-slice_bounds-put_graph-end
 slice-aggregate-put-graph c =

@@ -13,9 +13,9 @@ no-words-requires c κs =
 
 returns-2 : tie.Need-returns
 returns-2 c =
-    let from = c.before.before.from in
+    let from = c.in-After in
     let args = c.args in
-    c.no_words.ensures ∙ ended_at args.line.now _ _ from.given.1
+    c.no_words.ensures ∙ ended_at args.line.now _ _ from.is
 
 pub ended_spec : {M : Type 1} → statement M
 ended_spec = tie.close (tie.spec

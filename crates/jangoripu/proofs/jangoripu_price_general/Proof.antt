@@ -17,13 +17,13 @@ returns c =
 
 returns-2 : tie.Need-returns-in-Refused
 returns-2 c =
-    let r = c.before.before.before.refusal.given in
+    let r = c.in-Refused in
     let done = c.before.before.before.before.before in
     let given = done.shape_given-s.ensures in
     let left = done.price_general.ensures in
     let told = c.tell.ensures in
     rw (told.0, told.1, ← given.0, ← given.1, ← given.2, ← given.3)
-    (record { answers = testing_told (refuses r.0.0.fault r.0.0.place) (sym (ap price_says r.1) ∙ left.0); leaves = left.1 })
+    (record { answers = testing_told (refuses r.refusal.fault r.refusal.place) (sym (ap price_says r.is) ∙ left.0); leaves = left.1 })
 
 pub jangoripu_price_general_spec : {M : Type 1} → statement M
 jangoripu_price_general_spec =

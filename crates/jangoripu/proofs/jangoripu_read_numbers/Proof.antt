@@ -15,11 +15,11 @@ returns c =
 returns-2 : tie.Need-returns-in-Refused
 returns-2 c =
     let done = c.read_numbers.ensures in
-    let r = c.before.before.before.refusal.given in
+    let r = c.in-Refused in
     let told = c.tell.ensures in
     let given = c.numbers_of-what.ensures in
     rw (told.0, told.1, ← given)
-    (filling_told (refuses r.0.0.fault r.0.0.place) (sym (ap numbers_say r.1) ∙ done.0) done.1)
+    (filling_told (refuses r.refusal.fault r.refusal.place) (sym (ap numbers_say r.is) ∙ done.0) done.1)
 
 pub jangoripu_read_numbers_spec : {M : Type 1} → statement M
 jangoripu_read_numbers_spec =

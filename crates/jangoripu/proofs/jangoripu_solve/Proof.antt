@@ -17,11 +17,11 @@ returns c =
 returns-2 : tie.Need-returns-in-Refused
 returns-2 c =
     let done = c.solve.ensures in
-    let r = c.before.before.before.refusal.given in
+    let r = c.in-Refused in
     let told = c.tell.ensures in
     let given = c.shape_given-s.ensures in
     rw (told.0, told.1, ← given.0, ← given.1, ← given.2, ← given.3)
-    (graph_solved (refuses r.0.0.fault r.0.0.place) (sym (ap solve_says r.1) ∙ done.0) done.1)
+    (graph_solved (refuses r.refusal.fault r.refusal.place) (sym (ap solve_says r.is) ∙ done.0) done.1)
 
 pub jangoripu_solve_spec : {M : Type 1} → statement M
 jangoripu_solve_spec =

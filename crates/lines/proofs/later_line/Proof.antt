@@ -6,9 +6,9 @@ use Rattle.lines.proofs.later_line.Tie as tie
 
 returns : tie.Need-returns-then-more
 returns c =
-    let start = c.before.before.start in
+    let start = c.in-At in
     let find-line = c.find_line in
-    later_at find-line.ensures start.given.1 c.if-more.true
+    later_at find-line.ensures start.is c.if-more.true
 
 returns-2 : tie.Need-returns-then-more-2
 returns-2 c =
@@ -24,15 +24,15 @@ returns-3 c =
 
 returns-4 : tie.Need-returns-else-more-2
 returns-4 c =
-    let place = c.before.before.place in
+    let place = c.in-Ended in
     let find-line = c.find_line in
-    later_done find-line.ensures place.given.1 c.if-more-2.false
+    later_done find-line.ensures place.is c.if-more-2.false
 
 returns-5 : tie.Need-returns-in-Long
 returns-5 c =
-    let place2 = c.before.before.place2 in
+    let place2 = c.in-Long in
     let find-line = c.find_line in
-    later_long find-line.ensures place2.given.1 c.late-in-Long.ensures
+    later_long find-line.ensures place2.is c.late-in-Long.ensures
 
 pub later_line_spec : {M : Type 1} → statement M
 later_line_spec =

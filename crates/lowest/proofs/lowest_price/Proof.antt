@@ -28,14 +28,14 @@ returns c =
 
 add-t10 : tie.Need-overflow_add-result
 add-t10 c =
-    let k2 = c.before.k2 in
+    let k2 = c.in-At-lowest_outside in
     let at-lowest-outside2 = c.before in
     let start = at-lowest-outside2.before.before.before in
     omega (
       arith,
-      (lowest-some (length start.args.edge-price.now) (in_range start.args.edge-price.now) k2.given.0.0
+      (lowest-some (length start.args.edge-price.now) (in_range start.args.edge-price.now) k2.k
           (says (in_range start.args.edge-price.now) {n = length start.args.edge-price.now} at-lowest-outside2.lowest_outside-2.ensures
-          k2.given.1 refl)).among,
+          k2.is refl)).among,
       start.well_formed.0,
       start.well_formed.1.0,
       start.well_formed.1.1.0,
@@ -55,14 +55,14 @@ returns-2 c =
 
 add-t15 : tie.Need-overflow_add-result-in-At-lowest_outside-2-2
 add-t15 c =
-    let k3 = c.before.k3 in
+    let k3 = c.in-At-lowest_outside-2 in
     let at-lowest-outside3 = c.before in
     let start = at-lowest-outside3.before.before.before.before.before in
     omega (
       arith,
-      (lowest-some (length start.args.set-price.now) (in_range start.args.set-price.now) k3.given.0.0
+      (lowest-some (length start.args.set-price.now) (in_range start.args.set-price.now) k3.k
           (says (in_range start.args.set-price.now) {n = length start.args.set-price.now} at-lowest-outside3.lowest_outside-3.ensures
-          k3.given.1 refl)).among,
+          k3.is refl)).among,
       start.well_formed.0,
       start.well_formed.1.0,
       start.well_formed.1.1.0,

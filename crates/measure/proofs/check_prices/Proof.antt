@@ -32,11 +32,11 @@ refused-item-requires c κs =
 
 returns : tie.Need-returns-in-At
 returns c =
-    let v = c.before.before.v in
+    let v = c.in-At in
     let at-lowest-over = c.before.before in
     let start = at-lowest-over.before in
     c.refused_item.ensures
-    ∙ first_refuses (degrees start) (prices start) (yields tt) (sym at-lowest-over.lowest_over.ensures ∙ ap lowest_says v.given.1)
+    ∙ first_refuses (degrees start) (prices start) (yields tt) (sym at-lowest-over.lowest_over.ensures ∙ ap lowest_says v.is)
 
 refused-item-requires-2 : tie.Need-refused_item-requires-in-At-lowest_price
 refused-item-requires-2 c κs =
@@ -50,14 +50,14 @@ refused-item-requires-2 c κs =
 
 returns-2 : tie.Need-returns-in-At-lowest_price
 returns-2 c =
-    let k = c.before.before.k in
+    let k = c.in-At-lowest_price in
     let at-lowest-price = c.before.before in
     let at-enum-told = at-lowest-price.before in
     let at-lowest-over = at-enum-told.before in
     let s = at-lowest-over.before in
     c.refused_item-in-At-lowest_price.ensures
     ∙ second_refuses (degrees s) (prices s) (yields tt) (sym at-lowest-over.lowest_over.ensures ∙ ap lowest_says at-enum-told.in_default.is)
-    (sym at-lowest-price.lowest_price.ensures ∙ ap lowest_says k.given.1)
+    (sym at-lowest-price.lowest_price.ensures ∙ ap lowest_says k.is)
 
 returns-3 : tie.Need-returns
 returns-3 c =

@@ -72,14 +72,14 @@ refused-item-requires c κs =
 
 returns-2 : tie.Need-returns-in-At
 returns-2 c =
-    let v = c.before.before.v in
+    let v = c.in-At in
     let at-lowest-bound = c.before.before in
     let at-enum-told = at-lowest-bound.before in
     let at-check-lent = at-enum-told.before in
     let s = at-check-lent.before.before.before.before in
     c.refused_item.ensures
     ∙ part-passes (graphs s) (bounds s ∷ marks s ∷ []) (yields tt) at-check-lent.check_lent-graph.ensures at-enum-told.in_default.is
-    (first_refuses (bounds s) (marks s) (yields tt) (bound-say at-lowest-bound v.given.1))
+    (first_refuses (bounds s) (marks s) (yields tt) (bound-say at-lowest-bound v.is))
 
 refused-item-requires-2 : tie.Need-refused_item-requires-in-At-lowest_mark
 refused-item-requires-2 c κs =
@@ -90,7 +90,7 @@ refused-item-requires-2 c κs =
 
 returns-3 : tie.Need-returns-in-At-lowest_mark
 returns-3 c =
-    let e = c.before.before.e in
+    let e = c.in-At-lowest_mark in
     let at-lowest-mark = c.before.before in
     let at-enum-told2 = at-lowest-mark.before in
     let at-lowest-bound = at-enum-told2.before in
@@ -99,7 +99,7 @@ returns-3 c =
     let s = at-check-lent.before.before.before.before in
     c.refused_item-in-At-lowest_mark.ensures
     ∙ part-passes (graphs s) (bounds s ∷ marks s ∷ []) (yields tt) at-check-lent.check_lent-graph.ensures at-enum-told.in_default.is
-    (second_refuses (bounds s) (marks s) (yields tt) (bound-say at-lowest-bound at-enum-told2.in_default-lowest_bound.is) (mark-say at-lowest-mark e.given.1))
+    (second_refuses (bounds s) (marks s) (yields tt) (bound-say at-lowest-bound at-enum-told2.in_default-lowest_bound.is) (mark-say at-lowest-mark e.is))
 
 returns-4 : tie.Need-returns
 returns-4 c =

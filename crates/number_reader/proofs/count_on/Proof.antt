@@ -9,9 +9,9 @@ returns c = size_bad _ c.two_naturals.ensures c.in_default.is
 
 returns-2 : tie.Need-returns-then-rows-count
 returns-2 c =
-    let rows = c.before.before.rows in
+    let rows = c.in-Is in
     let two-naturals = c.two_naturals in
-    rows_wrong _ two-naturals.ensures rows.given.1 c.if-rows-count.true
+    rows_wrong _ two-naturals.ensures rows.is c.if-rows-count.true
 
 returns-3 : tie.Need-returns-then-columns-ne1
 returns-3 c =

@@ -97,7 +97,7 @@ returns-3 c =
 
 returns-4 : tie.Need-returns-in-Refused-count_on
 returns-4 c =
-    let fault = c.before.before.fault in
+    let fault = c.in-Refused-count_on in
     let at-count-on = c.before.before in
     let at-start2 = at-count-on.before.before in
     let at-size-line = at-start2.before in
@@ -111,7 +111,7 @@ returns-4 c =
     (header-right _ at-is-header.is_header.ensures at-if1.if-not-is_header.false) in
     read_refused _
     (size_stops L w at-size-line.size_line.ensures at-start2.in-At-size_line.is _
-    (sym at-count-on.count_on.ensures ∙ ap count_says fault.given.1) c.refused_at-in-Refused-count_on.ensures)
+    (sym at-count-on.count_on.ensures ∙ ap count_says fault.is) c.refused_at-in-Refused-count_on.ensures)
 
 pub read_number_lines_spec : {M : Type 1} → statement M
 read_number_lines_spec =

@@ -61,7 +61,7 @@ returns-3 c =
     at-check-text.check_text.ensures at-enum-told.in-Passed.is at-read-number-lines.read_number_lines.ensures at-r2.in-Refused-read_number_lines.is
     (c.clear_integers-in-Refused-read_number_lines.ensures
     ∙ ap (λ (k : ℕ). replicate k (pos 0))
-    (at-read-number-lines.read_number_lines.auto.1.1.1.1.0 ∙ ap length at-clear-integers.clear_integers.ensures
+    (at-read-number-lines.read_number_lines.auto.out ∙ ap length at-clear-integers.clear_integers.ensures
     ∙ length-replicate (length args.out.now) (pos 0)))
 
 pub read_numbers_by_spec : {M : Type 1} → statement M

@@ -60,12 +60,12 @@ same-length-3 c = c.loop-r.invariant.same
 
 returns-3 : tie.Need-returns-in-Refused-number_on invariant-loop decreases-loop
 returns-3 c =
-    let fault = c.before.before.fault in
+    let fault = c.in-Refused-number_on in
     let at-number-on = c.before.before in
     let at-start = at-number-on.before.before in
     let at-later-line = at-start.before in
     let inv = at-later-line.loop-r.invariant in
-    turn_stops inv at-later-line.later_line.ensures at-start.in-At.is at-number-on.number_on.ensures.0 fault.given.1
+    turn_stops inv at-later-line.later_line.ensures at-start.in-At.is at-number-on.number_on.ensures.0 fault.is
     c.refused_at.ensures
 
 slice-set-from-value : tie.Need-bounds-out-i invariant-loop decreases-loop

@@ -23,7 +23,7 @@ line-fits : (c : tie.After-put_signed-end invariant-loop decreases-loop) → c.p
 line-fits c =
     let t = c.before.before.before in
     let l = t.before in
-    omega (arith, value_room (numbers l.before.before) l.loop-k.invariant t.loop-k-test.true, c.put_signed-end.ensures.1, c.put_signed-end.auto.0)
+    omega (arith, value_room (numbers l.before.before) l.loop-k.invariant t.loop-k-test.true, c.put_signed-end.ensures.1, c.put_signed-end.auto.out)
 
 loop-holds : tie.Need-loop-k-init invariant-loop decreases-loop
 loop-holds c = let s = c.before in values-start (numbers s) s.args.out.now s.args.start s.requires

@@ -43,7 +43,7 @@ loop-again c =
     let inv = c.loop-e.invariant in
     let test = c.loop-e-test.true in
     let raise-row = c.raise_row in
-    (omega (arith, test), raise-row.auto.1.1.1.1.0 ∙ inv.1, start_more net (at_edge net test) inv.2 raise-row.ensures)
+    (omega (arith, test), raise-row.auto.price ∙ inv.1, start_more net (at_edge net test) inv.2 raise-row.ensures)
 
 returns : tie.Need-returns invariant-loop decreases-loop
 returns c = start_end c.loop-e.invariant.2 (omega (arith, c.loop-e-test.false, c.requires.passed.sound.row_long))

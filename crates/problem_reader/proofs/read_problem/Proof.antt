@@ -39,9 +39,9 @@ returns-2 c =
     let b = at-read-bounds.read_bounds.ensures in
     limits-refused (length a.row.now) (length a.column.now) (length a.weight.now) (length a.bound.now) a.sheet.now a.limits.now
     g.0 g.1.0 g.1.1.0 g.1.1.1 at-s.in-Graph.is at-vertex-count.vertex_count.ensures b.0 b.1 at-refusal2.in-Refused-read_bounds.is
-    (at-clear-naturals.clear_naturals.ensures ∙ ap (λ k. replicate k 0) d.auto.1.0)
-    (at-clear-naturals2.clear_naturals-in-Refused-read_bounds.ensures ∙ ap (λ k. replicate k 0) d.auto.1.1.0)
-    (c.clear_integers-in-Refused-read_bounds.ensures ∙ ap (λ k. replicate k (pos 0)) d.auto.1.1.1.0)
+    (at-clear-naturals.clear_naturals.ensures ∙ ap (λ k. replicate k 0) d.auto.row)
+    (at-clear-naturals2.clear_naturals-in-Refused-read_bounds.ensures ∙ ap (λ k. replicate k 0) d.auto.column)
+    (c.clear_integers-in-Refused-read_bounds.ensures ∙ ap (λ k. replicate k (pos 0)) d.auto.weight)
 
 returns-3 : tie.Need-returns-in-Read
 returns-3 c =

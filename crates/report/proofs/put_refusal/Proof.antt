@@ -15,8 +15,8 @@ same_length c =
     let number = at.before.before.before.before.before in
     let first = number.before.before.before.before in
     simp length-set
-    (file.put_source_name-at.auto.0 ∙ inside.put_bytes-at-3.auto.0 ∙ place.put_decimal-at-2.auto.0 ∙ at.put_bytes-at-2.auto.0 ∙ number.put_decimal-at.auto.0
-    ∙ first.put_bytes-at.auto.0)
+    (file.put_source_name-at.auto.out ∙ inside.put_bytes-at-3.auto.out ∙ place.put_decimal-at-2.auto.out ∙ at.put_bytes-at-2.auto.out ∙ number.put_decimal-at.auto.out
+    ∙ first.put_bytes-at.auto.out)
 
 returns : tie.Need-returns
 returns c =

@@ -57,9 +57,9 @@ optimise-requires c κs =
           P.bounded,
           (
             (
-              at-clear-integers.clear_integers.auto.0 ∙ P.vertex_long,
-              at-clear-integers2.clear_integers-2.auto.0 ∙ P.edge_long,
-              omega (arith, at-clear-integers3.clear_integers-3.auto.0, P.workspace_long, P.passed.sound.sizes.few),
+              at-clear-integers.clear_integers.auto.out ∙ P.vertex_long,
+              at-clear-integers2.clear_integers-2.auto.out ∙ P.edge_long,
+              omega (arith, at-clear-integers3.clear_integers-3.auto.out, P.workspace_long, P.passed.sound.sizes.few),
             ),
             at-clear-bytes.clear_bytes.ensures ∙ ap (λ n. replicate n 0) P.chosen_long,
           ),
@@ -81,12 +81,12 @@ returns-2 c =
     let says = sym at-tested.tested-check.ensures ∙ ap check_says at-enum-told.in_default.is in
     let optimise = at-optimise.optimise in
     let kept = optimise.auto.1.1.1.1.1.1 in
-    let workspace = kept.1.1.1.0 ∙ at-clear-integers3.clear_integers-3.auto.0 in (
+    let workspace = kept.1.1.1.0 ∙ at-clear-integers3.clear_integers-3.auto.out in (
       ap told (sym says),
       left-solved start.args.index.now (lent start) says optimise.ensures
-          (kept.0 ∙ at-clear-bytes.clear_bytes.auto.0)
-          (kept.1.0 ∙ at-clear-integers.clear_integers.auto.0)
-          (kept.1.1.0 ∙ at-clear-integers2.clear_integers-2.auto.0)
+          (kept.0 ∙ at-clear-bytes.clear_bytes.auto.out)
+          (kept.1.0 ∙ at-clear-integers.clear_integers.auto.out)
+          (kept.1.1.0 ∙ at-clear-integers2.clear_integers-2.auto.out)
           (at-clear-integers4.clear_integers-4.ensures ∙ ap (λ n. replicate n (pos 0)) workspace),
     )
 

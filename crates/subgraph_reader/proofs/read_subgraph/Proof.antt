@@ -14,19 +14,19 @@ enum_told c = search rules
 
 read-subgraph-lines-requires : tie.Need-read_subgraph_lines-requires
 read-subgraph-lines-requires c κs =
-    let enum_told = c.before.enum_told in
+    let enum_told = c.in-Passed in
     let at-check-inputs = c.before.before in
     let at-clear-bytes = at-check-inputs.before.before.before in
     let args = at-clear-bytes.args in
     let P = passed (graph_of args.s args.row.now args.column.now args.weight.now) (length args.chosen.now) args.text.now
     (ap length at-clear-bytes.clear_bytes.ensures ∙ length-replicate (length args.chosen.now) 0) _
-    at-check-inputs.check_inputs.ensures enum_told.given.1 in (
+    at-check-inputs.check_inputs.ensures enum_told.is in (
       (P.sound, distinct P),
       at-clear-bytes.clear_bytes.ensures
           ∙ ap (λ (k : ℕ). replicate k 0)
           (size (graph_of args.s args.row.now args.column.now args.weight.now) (length args.chosen.now) args.text.now
           (ap length at-clear-bytes.clear_bytes.ensures ∙ length-replicate (length args.chosen.now) 0) _
-          at-check-inputs.check_inputs.ensures enum_told.given.1),
+          at-check-inputs.check_inputs.ensures enum_told.is),
     )
 
 returns : tie.Need-returns-in-Refused
@@ -65,7 +65,7 @@ returns-3 c =
     at-r2.in-Refused-read_subgraph_lines.is
     (clear-bytes2.ensures
     ∙ ap (λ (k : ℕ). replicate k 0)
-    (at-read-subgraph-lines.read_subgraph_lines.auto.1.1.1.1.0
+    (at-read-subgraph-lines.read_subgraph_lines.auto.chosen
     ∙ (ap length at-clear-bytes.clear_bytes.ensures ∙ length-replicate (length args.chosen.now) 0)))
 
 pub read_subgraph_spec : {M : Type 1} → statement M

@@ -80,7 +80,7 @@ part-plan-size-on-end c =
 
 read-marks-requires : tie.Need-read_marks-requires
 read-marks-requires c κs =
-    let count = c.before.before.count in
+    let count = c.in-Count in
     let at-plan-size-on = c.before.before in
     let at-start2 = at-plan-size-on.before.before in
     let at-size-line = at-start2.before in
@@ -97,7 +97,7 @@ read-marks-requires c κs =
     let z = start.requires.1 in (
       rw z
           (size_goes (subgraph_layout New g) w at-size-line.size_line.ensures at-start2.in-At-size_line.is _
-          (size_says start.args.s start.args.row.now start.args.column.now _ at-plan-size-on.plan_size_on.ensures _ count.given.1)),
+          (size_says start.args.s start.args.row.now start.args.column.now _ at-plan-size-on.plan_size_on.ensures _ count.is)),
       (start.requires.0.0, start.requires.0.1, ap length z ∙ length-replicate start.args.s.edges 0),
     )
 
@@ -124,7 +124,7 @@ returns-4 c =
 
 returns-5 : tie.Need-returns-in-Refused-plan_size_on
 returns-5 c =
-    let fault = c.before.before.fault in
+    let fault = c.in-Refused-plan_size_on in
     let at-plan-size-on = c.before.before in
     let at-start2 = at-plan-size-on.before.before in
     let at-size-line = at-start2.before in
@@ -140,7 +140,7 @@ returns-5 c =
     (header-agrees g at-header-kind.header_kind.ensures at-kind.in-Is.is at-same-kind.same_kind.ensures at-if1.if-not-same_kind.false) in
     read_refused g _
     (size_stops (subgraph_layout New g) w at-size-line.size_line.ensures at-start2.in-At-size_line.is _
-    (size_says start.args.s start.args.row.now start.args.column.now _ at-plan-size-on.plan_size_on.ensures _ fault.given.1)
+    (size_says start.args.s start.args.row.now start.args.column.now _ at-plan-size-on.plan_size_on.ensures _ fault.is)
     c.refused_at-in-Refused-plan_size_on.ensures)
 
 pub read_subgraph_lines_spec : {M : Type 1} → statement M

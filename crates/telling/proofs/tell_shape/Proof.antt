@@ -7,13 +7,13 @@ use Rattle.telling.proofs.tell_shape.Tie as tie
 returns : tie.Need-returns-in-Graph
 returns c =
     let at-kind-number = c.before.before.before.before in
-    let told = at-kind-number.before.before.told in
-    rw (told.given.1, at-kind-number.kind_number-number.ensures) (refl, refl)
+    let told = at-kind-number.in-Graph in
+    rw (told.is, at-kind-number.kind_number-number.ensures) (refl, refl)
 
 returns-2 : tie.Need-returns-in-Refused
 returns-2 c =
-    let told2 = c.before.before.before.told2 in
-    rw told2.given.1 (c.number.ensures, refl)
+    let told2 = c.in-Refused in
+    rw told2.is (c.number.ensures, refl)
 
 pub tell_shape_spec : {M : Type 1} → statement M
 tell_shape_spec =

@@ -9,7 +9,7 @@ put-sizes-requires : tie.Need-put_sizes-requires
 put-sizes-requires c κs =
     let s = c.before.before.before.before.before.before.before.before.before.before in
     let h = c.put_header-at in
-    omega (arith, header_at s.args.field s.args.s.kind h.ensures, s.requires, h.auto.0, c.clear_bytes.auto.0)
+    omega (arith, header_at s.args.field s.args.s.kind h.ensures, s.requires, h.auto.out, c.clear_bytes.auto.out)
 
 returns : tie.Need-returns
 returns c =

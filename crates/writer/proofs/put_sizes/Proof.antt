@@ -35,7 +35,7 @@ put-pair-requires c κs = omega (arith, first c.before.before.before, (start1 c.
 same_length : tie.Need-shape_of-out
 same_length c =
     let after1 = c.before.before.before.before.before.before in
-    c.put_pair.auto.0 ∙ (first after1).blanked
+    c.put_pair.auto.out ∙ (first after1).blanked
 
 returns : tie.Need-returns
 returns c =

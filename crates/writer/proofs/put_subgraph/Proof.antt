@@ -26,7 +26,7 @@ loop-holds c =
     let s = c.before.before.before.before.before.before.before.before.before in
     let h = c.put_head-at in
     edges-start s.requires.1.0 s.requires.1.1 _ _
-    (head-room s.requires.1.0 s.requires.1.1 s.args.out.now s.requires.0 c.count_chosen.ensures h.ensures h.auto.0)
+    (head-room s.requires.1.0 s.requires.1.1 s.args.out.now s.requires.0 c.count_chosen.ensures h.ensures h.auto.out)
 
 mul-put-chosen-edge-2 : tie.Need-offset_bounds-column-e invariant-loop decreases-loop
 mul-put-chosen-edge-2 c =
@@ -54,10 +54,10 @@ loop-again c =
     let at-loop = at-loop-test.before in
     let s = at-loop.before.before.before.before.before.before.before.before.before.before in
     let p = c.put_chosen_edge-at in
-    edges_more s.requires.1.0 s.requires.1.1 at-loop.loop-e.invariant at-loop-test.loop-e-test.true p.auto.0 p.ensures
+    edges_more s.requires.1.0 s.requires.1.1 at-loop.loop-e.invariant at-loop-test.loop-e-test.true p.auto.out p.ensures
 
 same_length : tie.Need-shape_of-out invariant-loop decreases-loop
-same_length c = c.loop-e.invariant.long ∙ c.put_head-at.auto.0
+same_length c = c.loop-e.invariant.long ∙ c.put_head-at.auto.out
 
 returns : tie.Need-returns invariant-loop decreases-loop
 returns c =

@@ -28,7 +28,7 @@ stored c =
     let r = c.before.before.before.before.before in
     let d = r.read_assignment in
     graph-stored (whole (begun r).args.crosses.now) d.ensures.0 c.in-Graph.is d.ensures.1.0 d.ensures.1.1.0 d.ensures.1.1.1.0
-    d.auto.1.0 d.auto.1.1.0 d.auto.1.1.1.0
+    d.auto.row d.auto.column d.auto.weight
 
 returns : tie.Need-returns-then-out-ne-LONGEST_TEXT
 returns c =

@@ -33,7 +33,7 @@ abbrev counted : tie.After-read_numbers → tie.After-vertex_count
 counted c = c.before.before.before
 
 back : (c : tie.After-read_numbers) → PartBack (count (counted c)) zeros c.read_numbers.new.1.1.1.0
-back c = came-back (count (counted c)) zeros (fits (counted c)) c.read_numbers.auto.1.1.1.0
+back c = came-back (count (counted c)) zeros (fits (counted c)) c.read_numbers.auto.out
 
 slice-aggregate-read-numbers : tie.Need-slice_bounds-read_numbers-end
 slice-aggregate-read-numbers c = first-long (count c.before.before) zeros (fits c.before.before)

@@ -12,13 +12,13 @@ use Rattle.mark.proofs.output.put_measured.Tie as tie
 
 returns : tie.Need-returns-in-Measured
 returns c o says =
-    let m = c.before.before.before.before.before.answer.given in
-    same_line (ap (cameFrom Input) (told_same (yields m.0.0) o (sym (ap measureSays m.1) ∙ says))) c.put_measures.ensures
+    let m = c.in-Measured in
+    same_line (ap (cameFrom Input) (told_same (yields m.m) o (sym (ap measureSays m.is) ∙ says))) c.put_measures.ensures
 
 returns-2 : tie.Need-returns-in-Refused
 returns-2 c o says =
-    let r = c.before.before.before.before.before.answer2.given in
-    same_line (ap (cameFrom Input) (told_same (refuses r.0.0.fault r.0.0.place) o (sym (ap measureSays r.1) ∙ says)))
+    let r = c.in-Refused in
+    same_line (ap (cameFrom Input) (told_same (refuses r.refusal.fault r.refusal.place) o (sym (ap measureSays r.is) ∙ says)))
     c.put_refused.ensures
 
 pub put_measured_spec : {M : Type 1} → statement M

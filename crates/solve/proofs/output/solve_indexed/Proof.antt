@@ -26,7 +26,7 @@ lent : (c : tie.After-solve) → lentParts (graph (begun c)) (counted c).vertex_
 lent c = all-lent (graph (begun c)) (begun c).requires.0 (counted c).vertex_count-n.ensures
 
 back : (c : tie.After-solve) → PartBack (begun c).args.s.edges noMarks c.solve.new.1.1.1.1.1.1.0
-back c = came-back (begun c).args.s.edges noMarks (begun c).requires.0.few c.solve.auto.1.1.1.1.1.1.0
+back c = came-back (begun c).args.s.edges noMarks (begun c).requires.0.few c.solve.auto.chosen
 
 slice-aggregate-solve : tie.Need-slice_bounds-solve-end
 slice-aggregate-solve c = zeros-lent 0 1024 c.requires.0.few

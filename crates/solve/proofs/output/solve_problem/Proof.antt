@@ -31,7 +31,7 @@ lent c =
 
 back : (c : tie.After-build_index) → PartBack (size c) noIndex c.build_index.new.1.1.1.1.0
 back c =
-    came-back (size c) noIndex (index-fits (graph (begun c)) (begun c).requires.0 (counted c).index_numbers-k.ensures) c.build_index.auto.1.1.1.1.0
+    came-back (size c) noIndex (index-fits (graph (begun c)) (begun c).requires.0 (counted c).index_numbers-k.ensures) c.build_index.auto.index
 
 slice-aggregate-build-index : tie.Need-slice_bounds-build_index-end
 slice-aggregate-build-index c =

@@ -23,15 +23,15 @@ returns c =
 
 returns-2 : tie.Need-returns
 returns-2 c =
-    let value = c.before.value in
+    let value = c.in-Is in
     let at-read-integer = c.before in
     let at_word = at-read-integer.before in
     let at-skip-blanks = at_word.before in
     let args = at-skip-blanks.args in
-    rw (to_z-of_z {w = w32} (integer-fits args.rules _ _ (sym at-read-integer.read_integer.ensures ∙ ap integer_says value.given.1)))
+    rw (to_z-of_z {w = w32} (integer-fits args.rules _ _ (sym at-read-integer.read_integer.ensures ∙ ap integer_says value.is)))
     (next-is (integer args.rules) args.line.now args.self _
     (word_is args.line.now args.self.at at-skip-blanks.skip_blanks-start.ensures.0 at_word.word-w.ensures.0) _
-    (sym at-read-integer.read_integer.ensures ∙ ap integer_says value.given.1) _
+    (sym at-read-integer.read_integer.ensures ∙ ap integer_says value.is) _
     (word_past args.line.now args.self.at at-skip-blanks.skip_blanks-start.ensures.0 at_word.word-w.ensures.0))
 
 pub next_integer_spec : {M : Type 1} → statement M

@@ -26,7 +26,7 @@ stored c =
     let r = c.before.before.before.before in
     let d = r.read_graph in
     graph-stored (sheet-whole (begun r).args.sheet.now) d.ensures.0 c.in-Graph.is d.ensures.1.0 d.ensures.1.1.0 d.ensures.1.1.1
-    d.auto.1.0 d.auto.1.1.0 d.auto.1.1.1.0
+    d.auto.row d.auto.column d.auto.weight
 
 returns : tie.Need-returns-then-out-ne-LONGEST_TEXT
 returns c =

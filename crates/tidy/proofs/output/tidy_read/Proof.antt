@@ -20,7 +20,7 @@ returns-2 : tie.Need-returns-in-Refused
 returns-2 c =
     let s = c.before.before.before.before.before.before.before.before.before.before.before.before in
     let d = c.tidy_graph in
-    refusal-left (tidyGraph (graph s)) s.requires d.ensures.0 c.in-Refused.is d.auto.1.1.1.1.0 c.put_refused.ensures
+    refusal-left (tidyGraph (graph s)) s.requires d.ensures.0 c.in-Refused.is d.auto.out c.put_refused.ensures
 
 pub tidy_read_spec : {M : Type 1} → statement M
 tidy_read_spec =

@@ -27,7 +27,7 @@ stored c =
     let d = at-read-problem.read_problem in
     let a = (begun at-read-problem).args in
     stored-in a.sheet.now a.limits.now d.ensures.0 d.ensures.1 c.in-Read.is
-    d.auto.1.1.0 d.auto.1.1.1.0 d.auto.1.1.1.1.0 d.auto.1.1.1.1.1.0
+    d.auto.row d.auto.column d.auto.weight d.auto.bound
 
 returns : tie.Need-returns-then-out-ne-LONGEST_TEXT
 returns c =

@@ -23,7 +23,7 @@ returns-2 c =
     let call = refusal.before.before.before in
     let s = call.before.before.before.before.before in
     let d = call.write_assignment in
-    refusal-left (writeAssignment (graph s) s.args.bound.now) s.requires d.ensures.0 refusal.in-Refused.is d.auto.1.1.1.1.1.0
+    refusal-left (writeAssignment (graph s) s.args.bound.now) s.requires d.ensures.0 refusal.in-Refused.is d.auto.out
     c.put_refused.ensures
 
 pub write_problem_spec : {M : Type 1} → statement M
