@@ -10,8 +10,8 @@ returns-2 c = at_blank c.if-before.false c.args.line.now (sym c.is_blank_line.en
 
 returns-3 : tie.Need-returns
 returns-3 c =
-    let at-if1 = c.before.before.before in
-    let start = at-if1.before.before in
+    let at-if1 = c in
+    let start = at-if1 in
     at_line at-if1.if-before.false start.args.line.now (sym c.is_blank_line.ensures ∙ c.if-is_blank_line.false) c.is_comment.ensures
 
 pub has_begun_spec : {M : Type 1} → statement M

@@ -12,12 +12,12 @@ returns c = let a = c.args in no_byte_put a.out.now a.at a.s.now a.e c.if-s-e.tr
 
 slice-write-out : tie.Need-bounds-out-at
 slice-write-out c =
-    let s = c.before.before in
+    let s = c in
     omega (arith, s.requires, ap length (byte_some s.args.s.now s.args.e c.if-s-e.false))
 
 returns-2 : tie.Need-returns
 returns-2 c =
-    let s = c.before.before in
+    let s = c in
     byte_put s.args.out.now s.args.at s.args.s.now s.args.e c.if-s-e.false
     (omega (arith, s.requires, ap length (byte_some s.args.s.now s.args.e c.if-s-e.false)))
 

@@ -26,19 +26,19 @@ add-e c = search rules
 
 put-word-requires : tie.Need-put_word-to-requires invariant-loop decreases-loop
 put-word-requires c κs =
-    let at-loop = c.before.before.before in
-    let start = at-loop.before.before.before in
+    let at-loop = c in
+    let start = at-loop in
     let a = start.args in
     let P = word_piece a.line.now at-loop.loop-i.i c.loop-i-test.true _ c.word-w.ensures.0 in
     room_piece at-loop.loop-i.invariant start.requires P
 
 put-byte-requires : tie.Need-put_byte-to-requires invariant-loop decreases-loop
 put-byte-requires c κs =
-    let at-put-word = c.before.before.before in
-    let at_word = at-put-word.before.before in
-    let at-loop-test = at_word.before in
-    let at-loop = at-loop-test.before in
-    let start = at-loop.before.before.before in
+    let at-put-word = c in
+    let at_word = at-put-word in
+    let at-loop-test = at_word in
+    let at-loop = at-loop-test in
+    let start = at-loop in
     let a = start.args in
     let P = word_piece a.line.now at-loop.loop-i.i at-loop-test.loop-i-test.true _ at_word.word-w.ensures.0 in
     room_byte at-loop.loop-i.invariant start.requires P at-put-word.put_word-to.ensures (word_shorter _)
@@ -48,16 +48,16 @@ add-i c = search rules
 
 loop-less : tie.Need-loop-i-smaller invariant-loop decreases-loop
 loop-less c =
-    let at-loop-test = c.before.before.before.before.before.before.before.before.before in
+    let at-loop-test = c in
     omega (arith, at-loop-test.loop-i-test.true)
 
 loop-again : tie.Need-loop-i-preserved invariant-loop decreases-loop
 loop-again c =
-    let at-put-word = c.before.before.before.before.before.before in
-    let at_word = at-put-word.before.before in
-    let at-loop-test = at_word.before in
-    let at-loop = at-loop-test.before in
-    let start = at-loop.before.before.before in
+    let at-put-word = c in
+    let at_word = at-put-word in
+    let at-loop-test = at_word in
+    let at-loop = at-loop-test in
+    let start = at-loop in
     let a = start.args in
     let P = word_piece a.line.now at-loop.loop-i.i at-loop-test.loop-i-test.true _ at_word.word-w.ensures.0 in
     turn_more at-loop.loop-i.invariant start.requires P at-put-word.put_word-to.ensures (word_shorter _) c.put_byte-to.ensures (word_rest P)

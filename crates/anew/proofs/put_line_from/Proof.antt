@@ -9,14 +9,14 @@ use Rattle.anew.proofs.put_line_from.Tie as tie
 
 returns : tie.Need-returns-then-begun
 returns c =
-    let at-if1 = c.before.before.before.before in
-    let start = at-if1.before.before.before in
+    let at-if1 = c in
+    let start = at-if1 in
     puts_same c.put_line.ensures (ap (λ (b : Bool). line_from b start.args.line.now) (sym at-if1.if-begun.true))
 
 returns-2 : tie.Need-returns-else-begun
 returns-2 c =
-    let at-if1 = c.before.before.before.before in
-    let start = at-if1.before.before.before in
+    let at-if1 = c in
+    let start = at-if1 in
     puts_same c.put_bytes.ensures (ap (λ (b : Bool). line_from b start.args.line.now) (sym at-if1.if-begun.false))
 
 pub put_line_from_spec : {M : Type 1} → statement M

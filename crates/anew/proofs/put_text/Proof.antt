@@ -24,68 +24,68 @@ same_length c = c.loop-start.invariant.turn.long
 
 returns : tie.Need-returns-in-Done invariant-loop decreases-loop
 returns c =
-    let at-loop = c.before.before in
-    let start = at-loop.before.before.before in
+    let at-loop = c in
+    let start = at-loop in
     text_ends at-loop.loop-start.invariant (done start.args.s.now at-loop.loop-start.c _ c.next_line.ensures c.in-Done.is)
 
 sub-line : tie.Need-slice_bounds-line-count invariant-loop decreases-loop
 sub-line c =
-    let at-next-line = c.before in
-    let at-loop = at-next-line.before in
-    let start = at-loop.before.before.before in
+    let at-next-line = c in
+    let at-loop = at-next-line in
+    let start = at-loop in
     (lined start.args.s.now at-loop.loop-start.c _ at-next-line.next_line.ensures _ _ _ c.in-Part.is).forward
 
 part-line-start : tie.Need-slice_bounds-line-start invariant-loop decreases-loop
 part-line-start c =
-    let at-next-line = c.before in
-    let at-loop = at-next-line.before in
-    let start = at-loop.before.before.before in
+    let at-next-line = c in
+    let at-loop = at-next-line in
+    let start = at-loop in
     (lined start.args.s.now at-loop.loop-start.c _ at-next-line.next_line.ensures _ _ _ c.in-Part.is).forward
 
 part-line-end : tie.Need-slice_bounds-line-end invariant-loop decreases-loop
 part-line-end c =
-    let at-next-line = c.before in
-    let at-loop = at-next-line.before in
-    let start = at-loop.before.before.before in
+    let at-next-line = c in
+    let at-loop = at-next-line in
+    let start = at-loop in
     (lined start.args.s.now at-loop.loop-start.c _ at-next-line.next_line.ensures _ _ _ c.in-Part.is).inside
 
 put-line-from-requires : tie.Need-put_line_from-to-requires invariant-loop decreases-loop
 put-line-from-requires c κs =
-    let at-start = c.before.before.before in
-    let at-next-line = at-start.before in
-    let at-loop = at-next-line.before in
-    let start = at-loop.before.before.before in
+    let at-start = c in
+    let at-next-line = at-start in
+    let at-loop = at-next-line in
+    let start = at-loop in
     let g = lined start.args.s.now at-loop.loop-start.c _ at-next-line.next_line.ensures _ _ _ at-start.in-Part.is in
     line-room at-loop.loop-start.invariant start.requires g
 
 put-byte-requires : tie.Need-put_byte-to-requires invariant-loop decreases-loop
 put-byte-requires c κs =
-    let at-put-line-from = c.before.before.before in
-    let at-has-begun = at-put-line-from.before.before in
-    let at-start = at-has-begun.before.before in
-    let at-next-line = at-start.before in
-    let at-loop = at-next-line.before in
-    let start = at-loop.before.before.before in
+    let at-put-line-from = c in
+    let at-has-begun = at-put-line-from in
+    let at-start = at-has-begun in
+    let at-next-line = at-start in
+    let at-loop = at-next-line in
+    let start = at-loop in
     let g = lined start.args.s.now at-loop.loop-start.c _ at-next-line.next_line.ensures _ _ _ at-start.in-Part.is in
     end_room at-loop.loop-start.invariant start.requires g at-has-begun.has_begun-begun.ensures at-put-line-from.put_line_from-to.ensures
 
 loop-less : tie.Need-loop-start-smaller invariant-loop decreases-loop
 loop-less c =
-    let at-start = c.before.before.before.before.before.before.before.before.before.before in
-    let at-next-line = at-start.before in
-    let at-loop = at-next-line.before in
-    let start = at-loop.before.before.before in
+    let at-start = c in
+    let at-next-line = at-start in
+    let at-loop = at-next-line in
+    let start = at-loop in
     let g = lined start.args.s.now at-loop.loop-start.c _ at-next-line.next_line.ensures _ _ _ at-start.in-Part.is in
     text_falls at-loop.loop-start.invariant start.requires g
 
 loop-again : tie.Need-loop-start-preserved invariant-loop decreases-loop
 loop-again c =
-    let at-put-line-from = c.before.before.before.before.before.before in
-    let at-has-begun = at-put-line-from.before.before in
-    let at-start = at-has-begun.before.before in
-    let at-next-line = at-start.before in
-    let at-loop = at-next-line.before in
-    let start = at-loop.before.before.before in
+    let at-put-line-from = c in
+    let at-has-begun = at-put-line-from in
+    let at-start = at-has-begun in
+    let at-next-line = at-start in
+    let at-loop = at-next-line in
+    let start = at-loop in
     let g = lined start.args.s.now at-loop.loop-start.c _ at-next-line.next_line.ensures _ _ _ at-start.in-Part.is in
     text_more at-loop.loop-start.invariant start.requires g at-has-begun.has_begun-begun.ensures at-put-line-from.put_line_from-to.ensures c.put_byte-to.ensures
 

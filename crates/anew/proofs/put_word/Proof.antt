@@ -10,15 +10,15 @@ use Rattle.anew.proofs.put_word.Tie as tie
 
 returns : tie.Need-returns-in_default
 returns c =
-    let at-enum-told = c.before.before.before.before in
-    let at-read-integer = at-enum-told.before in
-    let start = at-read-integer.before.before.before in
+    let at-enum-told = c in
+    let at-read-integer = at-enum-told in
+    let start = at-read-integer in
     puts_same c.put_bytes.ensures (word_other start.args.w.now at-read-integer.read_integer.ensures at-enum-told.in_default.is)
 
 cast-put-signed : tie.Need-overflow_cast-z
 cast-put-signed c =
-    let at-read-integer = c.before.before in
-    let start = at-read-integer.before.before.before in
+    let at-read-integer = c in
+    let start = at-read-integer in
     number_fits start.args.w.now at-read-integer.read_integer.ensures c.in-Is.is
 
 slice-aggregate-put-bytes : tie.Need-slice_bounds-put_bytes-end
@@ -28,11 +28,11 @@ slice-aggregate-put-bytes c =
 
 put-bytes-requires-2 : tie.Need-put_bytes-requires-2
 put-bytes-requires-2 c κs =
-    let at-put-signed = c.before.before.before in
-    let at-z = at-put-signed.before.before in
-    let at-read-integer = at-z.before in
-    let at_before = at-read-integer.before.before in
-    let s = at_before.before in
+    let at-put-signed = c in
+    let at-z = at-put-signed in
+    let at-read-integer = at-z in
+    let at_before = at-read-integer in
+    let s = at_before in
     let says = at-read-integer.read_integer.ensures in
     let is = at-z.in-Is.is in
     let p = number_word s.args.w.now says is (number_wide s.args.w.now says is) at-put-signed.put_signed-k.ensures.0 in
@@ -40,11 +40,11 @@ put-bytes-requires-2 c κs =
 
 returns-2 : tie.Need-returns
 returns-2 c =
-    let at-put-signed = c.before.before.before.before.before.before in
-    let at-z = at-put-signed.before.before in
-    let at-read-integer = at-z.before in
-    let at_before = at-read-integer.before.before in
-    let s = at_before.before in
+    let at-put-signed = c in
+    let at-z = at-put-signed in
+    let at-read-integer = at-z in
+    let at_before = at-read-integer in
+    let s = at_before in
     let says = at-read-integer.read_integer.ensures in
     let is = at-z.in-Is.is in
     let p = number_word s.args.w.now says is (number_wide s.args.w.now says is) at-put-signed.put_signed-k.ensures.0 in

@@ -26,8 +26,8 @@ loop-holds c = (omega arith, begun_none (omega arith) c.requires.1.1)
 
 mul-table : tie.Need-offset_bounds-index-c invariant-loop decreases-loop
 mul-table c =
-    let at-vertex-count = c.before.before.before in
-    let start = at-vertex-count.before.before.before.before in
+    let at-vertex-count = c in
+    let start = at-vertex-count in
     omega (arith, c.loop-c-test.true, at-vertex-count.vertex_count-n.ensures, few start.requires.0)
 
 shared-slice-read-table : tie.Need-bounds-index-c invariant-loop decreases-loop
@@ -48,7 +48,7 @@ shared-slice-read-table-2 c =
 
 sub-table : tie.Need-overflow_sub-table invariant-loop decreases-loop
 sub-table c =
-    let start-at = c.before.before.before.before.before.before.before.before.before.before in
+    let start-at = c in
     let pre = start-at.requires in
     let loop = c.loop-c in
     let g = graph_of start-at.args.s start-at.args.row.now start-at.args.column.now start-at.args.weight.now in
@@ -62,23 +62,23 @@ sub-table c =
 
 mul-table-3 : tie.Need-offset_bounds-table-c invariant-loop decreases-loop
 mul-table-3 c =
-    let at-loop-test = c.before.before.before in
-    let at-vertex-count = at-loop-test.before.before.before in
-    let start = at-vertex-count.before.before.before.before in
+    let at-loop-test = c in
+    let at-vertex-count = at-loop-test in
+    let start = at-vertex-count in
     omega (arith, at-loop-test.loop-c-test.true, at-vertex-count.vertex_count-n.ensures, few start.requires.0)
 
 element-write-table : tie.Need-bounds-table-c invariant-loop decreases-loop
 element-write-table c =
-    let at-loop-test = c.before.before.before in
-    let at-vertex-count = at-loop-test.before.before.before in
-    let start = at-vertex-count.before.before.before.before in
+    let at-loop-test = c in
+    let at-vertex-count = at-loop-test in
+    let start = at-vertex-count in
     omega (arith, at-loop-test.loop-c-test.true, at-vertex-count.vertex_count-n.ensures, few start.requires.0)
 
 add-c : tie.Need-overflow_add-c invariant-loop decreases-loop
 add-c c =
-    let at-loop-test = c.before.before.before in
-    let at-vertex-count = at-loop-test.before.before.before in
-    let start = at-vertex-count.before.before.before.before in
+    let at-loop-test = c in
+    let at-vertex-count = at-loop-test in
+    let start = at-vertex-count in
     omega (arith, at-loop-test.loop-c-test.true, at-vertex-count.vertex_count-n.ensures, few start.requires.0)
 
 loop-less : tie.Need-loop-c-smaller invariant-loop decreases-loop
@@ -86,7 +86,7 @@ loop-less c = omega (arith, c.loop-c-test.true)
 
 loop-again : tie.Need-loop-c-preserved invariant-loop decreases-loop
 loop-again c =
-    let start-at = c.before.before.before.before.before.before.before.before.before.before in
+    let start-at = c in
     let pre = start-at.requires in
     let loop = c.loop-c in
     let inv = loop.invariant in

@@ -47,7 +47,7 @@ shared-slice-read-i c = omega (arith, c.requires.0)
 
 loop-holds : tie.Need-loop-i-init invariant-loop decreases-loop
 loop-holds c =
-    let start = c.before.before.before.before.before.before in
+    let start = c in
     (start.requires.1.0, row_none, same-arcs, start.requires.0.3)
 
 edge-at-requires : tie.Need-edge_at-e-requires invariant-loop decreases-loop
@@ -61,11 +61,11 @@ edge-at-requires c κs =
 
 keep-edge-requires : tie.Need-keep_edge-k-requires invariant-loop decreases-loop
 keep-edge-requires c κs =
-    let at-edge-at = c.before in
-    let at-loop-test = at-edge-at.before in
-    let at-loop = at-loop-test.before in
-    let at-vertex-count = at-loop.before.before.before.before in
-    let start = at-vertex-count.before.before.before in
+    let at-edge-at = c in
+    let at-loop-test = at-edge-at in
+    let at-loop = at-loop-test in
+    let at-vertex-count = at-loop in
+    let start = at-vertex-count in
     let loop = at-loop.loop-i in
     let K = loop.invariant.1 in
     let at = start.requires.1.1 loop.i (omega (arith, K.low, K.high)) at-loop-test.loop-i-test.true in
@@ -74,9 +74,9 @@ keep-edge-requires c κs =
 
 add-i : tie.Need-overflow_add-i invariant-loop decreases-loop
 add-i c =
-    let at-loop-test = c.before.before.before in
-    let at-loop = at-loop-test.before in
-    let start = at-loop.before.before.before.before.before.before.before in
+    let at-loop-test = c in
+    let at-loop = at-loop-test in
+    let start = at-loop in
     let loop = at-loop.loop-i in
     let K = loop.invariant.1 in
     omega (arith, (start.requires.1.1 loop.i (omega (arith, K.low, K.high)) at-loop-test.loop-i-test.true).few)
@@ -86,11 +86,11 @@ loop-less c = omega (arith, c.loop-i-test.true)
 
 loop-again : tie.Need-loop-i-preserved invariant-loop decreases-loop
 loop-again c =
-    let at-edge-at = c.before.before in
-    let at-loop-test = at-edge-at.before in
-    let at-loop = at-loop-test.before in
-    let at-vertex-count = at-loop.before.before.before.before in
-    let start = at-vertex-count.before.before.before in
+    let at-edge-at = c in
+    let at-loop-test = at-edge-at in
+    let at-loop = at-loop-test in
+    let at-vertex-count = at-loop in
+    let start = at-vertex-count in
     let loop = at-loop.loop-i in
     let inv = loop.invariant in
     let K = inv.1 in

@@ -42,9 +42,9 @@ keep-row-requires c κs =
 
 mul-table : tie.Need-offset_bounds-index-r invariant-loop decreases-loop
 mul-table c =
-    let at-if1 = c.before.before.before in
+    let at-if1 = c in
     let start = at-if1 in
-    omega (arith, at-if1.if1.true, start.requires.0.passed.sound.sizes.rows.greatest)
+    omega (arith, at-if1.loop-r-test.true, start.requires.0.passed.sound.sizes.rows.greatest)
 
 shared-slice-read-table : tie.Need-bounds-index-r invariant-loop decreases-loop
 shared-slice-read-table c =
@@ -53,38 +53,38 @@ shared-slice-read-table c =
 
 mul-table-2 : tie.Need-offset_bounds-table-r invariant-loop decreases-loop
 mul-table-2 c =
-    let at-if1 = c.before.before.before.before in
+    let at-if1 = c in
     let start = at-if1 in
-    omega (arith, at-if1.if1.true, start.requires.0.passed.sound.sizes.rows.greatest)
+    omega (arith, at-if1.loop-r-test.true, start.requires.0.passed.sound.sizes.rows.greatest)
 
 element-write-table : tie.Need-bounds-table-r invariant-loop decreases-loop
 element-write-table c =
-    let at-if1 = c.before.before.before.before in
-    let start = at-if1.before.before.before.before.before.before in
+    let at-if1 = c in
+    let start = at-if1 in
     omega (arith, at-if1.loop-r-test.true, start.requires.0.passed.sound.sizes.rows.greatest)
 
 add-table : tie.Need-overflow_add-table invariant-loop decreases-loop
 add-table c =
-    let at-if1 = c.before.before.before.before in
-    let start = at-if1.before.before.before.before.before.before in
+    let at-if1 = c in
+    let start = at-if1 in
     omega (arith, at-if1.loop-r-test.true, start.requires.0.passed.sound.sizes.rows.greatest)
 
 mul-table-3 : tie.Need-offset_bounds-table-r-in-loop-r invariant-loop decreases-loop
 mul-table-3 c =
-    let at-if1 = c.before.before.before.before in
-    let start = at-if1.before.before.before.before.before.before in
+    let at-if1 = c in
+    let start = at-if1 in
     omega (arith, at-if1.loop-r-test.true, start.requires.0.passed.sound.sizes.rows.greatest)
 
 element-write-table-2 : tie.Need-bounds-table-r-in-loop-r invariant-loop decreases-loop
 element-write-table-2 c =
-    let at-if1 = c.before.before.before.before in
-    let start = at-if1.before.before.before.before.before.before in
+    let at-if1 = c in
+    let start = at-if1 in
     omega (arith, at-if1.loop-r-test.true, start.requires.0.passed.sound.sizes.rows.greatest)
 
 add_r : tie.Need-overflow_add-r invariant-loop decreases-loop
 add_r c =
-    let at-if1 = c.before.before.before.before in
-    let start = at-if1.before.before.before.before.before.before in
+    let at-if1 = c in
+    let start = at-if1 in
     omega (arith, at-if1.loop-r-test.true, start.requires.0.passed.sound.sizes.rows.greatest)
 
 loop-less : tie.Need-loop-r-smaller invariant-loop decreases-loop
@@ -92,7 +92,7 @@ loop-less c = omega (arith, c.loop-r-test.true)
 
 loop-again : tie.Need-loop-r-preserved invariant-loop decreases-loop
 loop-again c =
-    let start = c.before.before.before.before.before.before.before.before.before.before in
+    let start = c in
     let net = start.requires.0 in
     let is = start.requires.1.0 in
     let test = c.loop-r-test.true in

@@ -23,45 +23,45 @@ part-entry-on-end c =
 
 returns : tie.Need-returns-in-Ended
 returns c =
-    let at_place = c.before in
+    let at_place = c in
     let entry-line = at_place.entry_line in
     problem_missing entry-line.ensures at_place.in-Ended.is c.wrong_line.ensures
 
 returns-2 : tie.Need-returns-in-Long
 returns-2 c =
-    let at-place2 = c.before in
+    let at-place2 = c in
     let entry-line = at-place2.entry_line in
     problem_long entry-line.ensures at-place2.in-Long.is c.wrong_line-in-Long.ensures
 
 returns-3 : tie.Need-returns-in-Problem
 returns-3 c =
-    let at-entry-on = c.before in
-    let at-start = at-entry-on.before.before in
+    let at-entry-on = c in
+    let at-start = at-entry-on in
     let entry-line = at-start.entry_line in
     problem_found entry-line.ensures at-start.in-At.is at-entry-on.entry_on.ensures c.in-Problem.is refl
 
 returns-4 : tie.Need-returns-in-Source
 returns-4 c =
-    let at-node = c.before in
-    let at-entry-on = at-node.before in
-    let at-start = at-entry-on.before.before in
+    let at-node = c in
+    let at-entry-on = at-node in
+    let at-start = at-entry-on in
     let entry-line = at-start.entry_line in
     first_source entry-line.ensures at-start.in-At.is at-entry-on.entry_on.ensures refl c.wrong_line-in-Source.ensures
     at-node.in-Source.is
 
 returns-5 : tie.Need-returns-in-Arc
 returns-5 c =
-    let at_source = c.before in
-    let at-entry-on = at_source.before in
-    let at-start = at-entry-on.before.before in
+    let at_source = c in
+    let at-entry-on = at_source in
+    let at-start = at-entry-on in
     let entry-line = at-start.entry_line in
     first_arc entry-line.ensures at-start.in-At.is at-entry-on.entry_on.ensures refl c.wrong_line-in-Arc.ensures
     at_source.in-Arc.is
 
 returns-6 : tie.Need-returns-in-Bad
 returns-6 c =
-    let at-entry-on = c.before.before in
-    let at-start = at-entry-on.before.before in
+    let at-entry-on = c in
+    let at-start = at-entry-on in
     let entry-line = at-start.entry_line in
     first_bad entry-line.ensures at-start.in-At.is at-entry-on.entry_on.ensures refl c.wrong_line-in-Bad.ensures
     c.in-Bad.is

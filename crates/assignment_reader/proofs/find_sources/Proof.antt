@@ -22,14 +22,14 @@ entry-line-requires c κs = c.loop-place.invariant.reached
 
 returns : tie.Need-returns-in-Ended invariant-loop decreases-loop
 returns c =
-    let at-entry-line = c.before in
+    let at-entry-line = c in
     let loop = at-entry-line.loop-place in
     turn_ended loop.invariant at-entry-line.entry_line.ensures c.in-Ended.is
 
 returns-2 : tie.Need-returns-in-Long invariant-loop decreases-loop
 returns-2 c =
-    let at-place2 = c.before in
-    let at-entry-line = at-place2.before in
+    let at-place2 = c in
+    let at-entry-line = at-place2 in
     let loop = at-entry-line.loop-place in
     turn_long loop.invariant at-entry-line.entry_line.ensures at-place2.in-Long.is c.wrong_line.ensures
 
@@ -50,34 +50,34 @@ part-next-source-end c =
 
 loop-less : tie.Need-loop-place-smaller invariant-loop decreases-loop
 loop-less c =
-    let at-start = c.before.before.before in
+    let at-start = c in
     let entry-line = at-start.entry_line in
     omega (arith, (found-line entry-line.ensures at-start.in-At.is).onward, (found-line entry-line.ensures at-start.in-At.is).reached.reach)
 
 loop-again : tie.Need-loop-place-preserved invariant-loop decreases-loop
 loop-again c =
-    let at-next-source = c.before in
-    let at-start = at-next-source.before.before in
-    let at-entry-line = at-start.before in
+    let at-next-source = c in
+    let at-start = at-next-source in
+    let at-entry-line = at-start in
     let loop = at-entry-line.loop-place in
     turn_node loop.invariant at-entry-line.entry_line.ensures at-start.in-At.is at-next-source.next_source.result
     at-next-source.next_source.ensures c.in-Node.is
 
 returns-3 : tie.Need-returns-in-Arc invariant-loop decreases-loop
 returns-3 c =
-    let at-next-source = c.before in
-    let at-start = at-next-source.before.before in
-    let at-entry-line = at-start.before in
+    let at-next-source = c in
+    let at-start = at-next-source in
+    let at-entry-line = at-start in
     let loop = at-entry-line.loop-place in
     turn_arc loop.invariant at-entry-line.entry_line.ensures at-start.in-At.is at-next-source.next_source.result
     at-next-source.next_source.ensures c.in-Arc.is
 
 returns-4 : tie.Need-returns-in-Refused invariant-loop decreases-loop
 returns-4 c =
-    let at-fault = c.before in
-    let at-next-source = at-fault.before in
-    let at-start = at-next-source.before.before in
-    let at-entry-line = at-start.before in
+    let at-fault = c in
+    let at-next-source = at-fault in
+    let at-start = at-next-source in
+    let at-entry-line = at-start in
     let loop = at-entry-line.loop-place in
     turn_refused loop.invariant at-entry-line.entry_line.ensures at-start.in-At.is at-next-source.next_source.result
     at-next-source.next_source.ensures at-fault.in-Refused.is c.refused_at.ensures

@@ -20,10 +20,10 @@ tested : (c : tie.After-check_text) →
     let a = (begun c).args in
     TextTested (length a.row.now) (length a.column.now) (length a.weight.now) (length a.bound.now) a.text.now c.check_text.result
 tested c =
-    let lent = c.before in
-    let edges = lent.before in
-    let ends = edges.before in
-    let zeros = ends.before.before in
+    let lent = c in
+    let edges = lent in
+    let ends = edges in
+    let zeros = ends in
     tested_by (begun c).args.text.now
     (lengths_four (length (begun c).args.bound.now) (emptied c).clear.ensures zeros.clear_integers.ensures ends.both-ends.ensures edges.both-edges.ensures
     lent.both-lent.ensures)
@@ -31,78 +31,78 @@ tested c =
 
 read-assignment-lines-requires : tie.Need-read_assignment_lines-requires
 read-assignment-lines-requires c κs =
-    let at-enum-told = c.before.before.before in
-    let at-check-text = at-enum-told.before in
+    let at-enum-told = c in
+    let at-check-text = at-enum-told in
     let clear = at-check-text.clear in
-    lent_cleared (tested at-check-text) at-enum-told.in-Passed.is clear.ensures
+    lent_cleared (tested at-check-text.before.before.before.before) at-enum-told.in-Passed.is clear.ensures
 
 set-bounds-requires : tie.Need-set_bounds-requires
 set-bounds-requires c κs =
-    let at-s = c.before.before in
-    let at-read-assignment-lines = at-s.before.before.before.before.before.before in
-    let at-enum-told = at-read-assignment-lines.before.before.before.before in
-    let at-check-text = at-enum-told.before in
+    let at-s = c in
+    let at-read-assignment-lines = at-s in
+    let at-enum-told = at-read-assignment-lines in
+    let at-check-text = at-enum-told in
     let clear-integers = at-check-text.clear_integers in
-    let T = tested at-check-text in
+    let T = tested at-check-text.before.before.before.before.before.before.before.before.before.before.before.before.before in
     let passed = at-enum-told.in-Passed.is in
     (bounds_cleared T passed clear-integers.ensures, rw c.vertex_count.ensures (read_few T passed at-read-assignment-lines.read_assignment_lines.ensures at-s.in-Graph.is))
 
 returns : tie.Need-returns-in-Refused
 returns c =
-    let at-check-text = c.before in
-    let at-clear-integers = at-check-text.before.before.before.before.before in
+    let at-check-text = c in
+    let at-clear-integers = at-check-text in
     let clear = at-clear-integers.clear in
-    lent_refused (tested at-check-text) c.in-Refused.is clear.ensures at-clear-integers.clear_integers.ensures
+    lent_refused (tested at-check-text.before) c.in-Refused.is clear.ensures at-clear-integers.clear_integers.ensures
 
 same-length-5 : tie.Need-shape_of-row-in-Graph
 same-length-5 c =
-    let at-read-assignment-lines = c.before.before.before.before.before.before.before.before.before.before in
+    let at-read-assignment-lines = c in
     let clear = at-read-assignment-lines.clear in
     at-read-assignment-lines.read_assignment_lines.auto.row ∙ row_kept clear.ensures
 
 returns-2 : tie.Need-returns-in-Graph
 returns-2 c =
-    let at-vertex-count = c.before.before in
-    let at-s = at-vertex-count.before.before in
-    let at-read-assignment-lines = at-s.before.before.before.before.before.before in
-    let at-enum-told = at-read-assignment-lines.before.before.before.before in
-    let at-check-text = at-enum-told.before in
-    answered_read (tested at-check-text) at-enum-told.in-Passed.is at-read-assignment-lines.read_assignment_lines.ensures at-s.in-Graph.is
+    let at-vertex-count = c in
+    let at-s = at-vertex-count in
+    let at-read-assignment-lines = at-s in
+    let at-enum-told = at-read-assignment-lines in
+    let at-check-text = at-enum-told in
+    answered_read (tested at-check-text.before.before.before.before.before.before.before.before.before.before.before.before.before.before.before) at-enum-told.in-Passed.is at-read-assignment-lines.read_assignment_lines.ensures at-s.in-Graph.is
     (c.set_bounds.ensures ∙ ap (λ k. filled 128 (pos 0) (replicate k (pos 1))) at-vertex-count.vertex_count.ensures)
 
 same-length-9 : tie.Need-shape_of-row-in-Refused-read_assignment_lines
 same-length-9 c =
-    let at-clear2 = c.before.before.before.before.before in
-    let at-read-assignment-lines = at-clear2.before.before.before.before.before.before.before.before.before.before in
+    let at-clear2 = c in
+    let at-read-assignment-lines = at-clear2 in
     let clear = at-read-assignment-lines.clear in
     at-clear2.clear-in-Refused-read_assignment_lines.auto.row ∙ at-read-assignment-lines.read_assignment_lines.auto.row ∙ row_kept clear.ensures
 
 same-length-10 : tie.Need-shape_of-column-in-Refused-read_assignment_lines
 same-length-10 c =
-    let at-clear2 = c.before.before.before.before.before in
-    let at-read-assignment-lines = at-clear2.before.before.before.before.before.before.before.before.before.before in
+    let at-clear2 = c in
+    let at-read-assignment-lines = at-clear2 in
     let clear = at-read-assignment-lines.clear in
     at-clear2.clear-in-Refused-read_assignment_lines.auto.column ∙ at-read-assignment-lines.read_assignment_lines.auto.column ∙ column_kept clear.ensures
 
 same-length-11 : tie.Need-shape_of-weight-in-Refused-read_assignment_lines
 same-length-11 c =
-    let at-clear2 = c.before.before.before.before.before in
-    let at-read-assignment-lines = at-clear2.before.before.before.before.before.before.before.before.before.before in
+    let at-clear2 = c in
+    let at-read-assignment-lines = at-clear2 in
     let clear = at-read-assignment-lines.clear in
     at-clear2.clear-in-Refused-read_assignment_lines.auto.weight ∙ at-read-assignment-lines.read_assignment_lines.auto.weight ∙ weight-kept clear.ensures
 
 returns-3 : tie.Need-returns-in-Refused-read_assignment_lines
 returns-3 c =
-    let at-clear2 = c.before.before.before.before.before in
-    let at-r2 = at-clear2.before.before.before.before in
-    let at-read-assignment-lines = at-r2.before.before.before.before.before.before in
-    let at-enum-told = at-read-assignment-lines.before.before.before.before in
-    let at-check-text = at-enum-told.before in
-    let at-clear-integers = at-check-text.before.before.before.before.before in
+    let at-clear2 = c in
+    let at-r2 = at-clear2 in
+    let at-read-assignment-lines = at-r2 in
+    let at-enum-told = at-read-assignment-lines in
+    let at-check-text = at-enum-told in
+    let at-clear-integers = at-check-text in
     let clear = at-clear-integers.clear in
     let kept = at-read-assignment-lines.read_assignment_lines.auto.1 in
     let zeros = clear.ensures in
-    answered_refused (tested at-check-text) at-enum-told.in-Passed.is at-read-assignment-lines.read_assignment_lines.ensures at-r2.in-Refused-read_assignment_lines.is
+    answered_refused (tested at-check-text.before.before.before.before.before.before.before.before.before.before.before.before.before.before.before.before.before.before.before.before) at-enum-told.in-Passed.is at-read-assignment-lines.read_assignment_lines.ensures at-r2.in-Refused-read_assignment_lines.is
     (cleared_again at-clear2.clear-in-Refused-read_assignment_lines.ensures (kept.0 ∙ row_kept zeros) (kept.1.0 ∙ column_kept zeros) (kept.1.1.0 ∙ weight-kept zeros))
     at-clear-integers.clear_integers.ensures
 

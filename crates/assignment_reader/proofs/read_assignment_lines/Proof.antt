@@ -8,19 +8,19 @@ use Rattle.assignment_reader.proofs.read_assignment_lines.Tie as tie
 
 find-sources-requires : tie.Need-find_sources-requires
 find-sources-requires c κs =
-    let at-find-problem = c.before in
+    let at-find-problem = c in
     let args = at-find-problem.args in
     (problem_at args.text.now at-find-problem.find_problem.ensures c.in-At.is).reached
 
 read-edges-requires : tie.Need-read_edges-requires
 read-edges-requires c κs =
-    let at-if1 = c.before.before.before in
-    let at-sizes-in-range = at-if1.before in
-    let at_rows = at-sizes-in-range.before.before in
-    let at-find-sources = at_rows.before in
-    let at-problem = at-find-sources.before in
-    let at-find-problem = at-problem.before in
-    let start = at-find-problem.before.before.before.before in (
+    let at-if1 = c in
+    let at-sizes-in-range = at-if1 in
+    let at_rows = at-sizes-in-range in
+    let at-find-sources = at_rows in
+    let at-problem = at-find-sources in
+    let at-find-problem = at-problem in
+    let start = at-find-problem in (
       (sources_at start.args.text.now at-find-problem.find_problem.ensures at-problem.in-At.is
           at-find-sources.find_sources.ensures at_rows.in-Until.is).reached,
       (sym at-sizes-in-range.sizes_in_range.ensures ∙ at-if1.if-sizes_in_range.true, start.requires),
@@ -28,14 +28,14 @@ read-edges-requires c κs =
 
 returns : tie.Need-returns-then-sizes_in_range
 returns c =
-    let at-read-edges = c.before.before.before.before.before in
-    let at-if1 = at-read-edges.before.before.before.before in
-    let at-sizes-in-range = at-if1.before in
-    let at-assignment-shape = at-sizes-in-range.before in
-    let at_rows = at-assignment-shape.before in
-    let at-find-sources = at_rows.before in
-    let at-problem = at-find-sources.before in
-    let at-find-problem = at-problem.before in
+    let at-read-edges = c in
+    let at-if1 = at-read-edges in
+    let at-sizes-in-range = at-if1 in
+    let at-assignment-shape = at-sizes-in-range in
+    let at_rows = at-assignment-shape in
+    let at-find-sources = at_rows in
+    let at-problem = at-find-sources in
+    let at-find-problem = at-problem in
     let args = at-find-problem.args in
     read_as at-read-edges.read_edges.ensures
     (sizes_in args.text.now at-find-problem.find_problem.ensures at-problem.in-At.is at-find-sources.find_sources.ensures
@@ -43,25 +43,25 @@ returns c =
 
 returns-2 : tie.Need-returns-in-Refused
 returns-2 c =
-    let at-find-problem = c.before in
+    let at-find-problem = c in
     let args = at-find-problem.args in
     read_refused _ (problem_refused args.text.now at-find-problem.find_problem.ensures c.in-Refused.is)
 
 returns-3 : tie.Need-returns-in-Refused-find_sources
 returns-3 c =
-    let at-find-sources = c.before in
-    let at-problem = at-find-sources.before in
-    let at-find-problem = at-problem.before in
+    let at-find-sources = c in
+    let at-problem = at-find-sources in
+    let at-find-problem = at-problem in
     let args = at-find-problem.args in
     read_refused _ (sources_refused args.text.now at-find-problem.find_problem.ensures at-problem.in-At.is at-find-sources.find_sources.ensures c.in-Refused-find_sources.is)
 
 returns-4 : tie.Need-returns-else-sizes_in_range
 returns-4 c =
-    let at-assignment-shape = c.before.before in
-    let at_rows = at-assignment-shape.before in
-    let at-find-sources = at_rows.before in
-    let at-problem = at-find-sources.before in
-    let at-find-problem = at-problem.before in
+    let at-assignment-shape = c in
+    let at_rows = at-assignment-shape in
+    let at-find-sources = at_rows in
+    let at-problem = at-find-sources in
+    let at-find-problem = at-problem in
     let args = at-find-problem.args in
     read_refused _ (sizes_out args.text.now at-find-problem.find_problem.ensures at-problem.in-At.is
     at-find-sources.find_sources.ensures at_rows.in-Until.is at-assignment-shape.assignment_shape-s.ensures c.sizes_in_range.ensures

@@ -12,7 +12,7 @@ slice-aggregate-fill c = bounds-lent c.requires.0 c.args.n c.requires.1
 
 returns : tie.Need-returns
 returns c =
-    let start = c.before.before.before in
+    let start = c in
     bounds_set start.requires.0 start.args.n start.requires.1 c.fill.ensures
 
 pub set_bounds_spec : {M : Type 1} → statement M

@@ -12,33 +12,33 @@ graph s = graph_of s.args.s s.args.row.now s.args.column.now s.args.weight.now
 
 returns : tie.Need-returns-in-Refused
 returns c =
-    let tests = c.before in
-    let s = tests.before.before.before in
-    first_refused (graph s) s.args.bound.now s.args.out tests.check_bipartite.ensures c.in-Refused.is
+    let tests = c in
+    let s = tests in
+    first_refused (graph s.before.before.before.before) s.args.bound.now s.args.out tests.check_bipartite.ensures c.in-Refused.is
 
 refused-item-requires : tie.Need-refused_item-requires
 refused-item-requires c κs =
-    let found = c.before in
-    let tests = found.before.before in
-    let s = tests.before.before.before in
-    bound_among (graph s) s.args.bound.now s.args.out tests.check_bipartite.ensures found.in_default.is
+    let found = c in
+    let tests = found in
+    let s = tests in
+    bound_among (graph s.before.before.before.before.before.before) s.args.bound.now s.args.out tests.check_bipartite.ensures found.in_default.is
     found.lowest_not_one.ensures c.in-At.is
 
 returns-2 : tie.Need-returns-in-At
 returns-2 c =
-    let found = c.before.before in
-    let tests = found.before.before in
-    let s = tests.before.before.before in
+    let found = c in
+    let tests = found in
+    let s = tests in
     c.refused_item.ensures
-    ∙ bound_refused (graph s) s.args.bound.now s.args.out tests.check_bipartite.ensures found.in_default.is
+    ∙ bound_refused (graph s.before.before.before.before.before.before.before) s.args.bound.now s.args.out tests.check_bipartite.ensures found.in_default.is
     found.lowest_not_one.ensures c.in-At.is
 
 returns-3 : tie.Need-returns
 returns-3 c =
-    let found = c.before in
-    let tests = found.before.before in
-    let s = tests.before.before.before in
-    all_passed (graph s) s.args.bound.now s.args.out tests.check_bipartite.ensures found.in_default.is
+    let found = c in
+    let tests = found in
+    let s = tests in
+    all_passed (graph s.before.before.before.before.before.before) s.args.bound.now s.args.out tests.check_bipartite.ensures found.in_default.is
     found.lowest_not_one.ensures c.in_default-lowest_not_one.is
 
 pub check_assignment_spec : {M : Type 1} → statement M

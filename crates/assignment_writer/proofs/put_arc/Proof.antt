@@ -34,7 +34,7 @@ costed : (c : tie.After-put_signed-end) →
 costed c =
     let s = begun c in
     let w = c.cost_of in
-    let n = c.before.before.before.before.before in
+    let n = c in
     let f = at_field c in
     arc_part s.requires.0 (row_of s) (target s) (cost s) f.put_bytes-a.ensures f.put_field-b.ensures
     n.column_node-target.ensures n.put_field-c.ensures w.ensures w.type_inv c.put_signed-end.ensures
@@ -44,20 +44,19 @@ cast-put-field c = omega (arith, c.shared_slice_known-3-1.given c.args.e)
 
 same_length : tie.Need-shape_of-out
 same_length c =
-    let t = c.before.before in
-    length-set t.put_signed-end.new.0 t.put_signed-end.result 10 ∙ (costed t).long
+    let t = c in
+    length-set t.put_signed-end.new.0 t.put_signed-end.result 10 ∙ (costed t.before.before).long
 
 returns : tie.Need-returns
 returns c =
-    let t = c.before.before in
-    let s = begun t in
-    arc_put s.requires.0 (row_of s) (target s) (cost s) (costed t)
+    let t = c in
+    let s = begun t.before.before in
+    arc_put s.requires.0 (row_of s) (target s) (cost s) (costed t.before.before)
 
 pub put_arc_spec : {M : Type 1} → statement M
 put_arc_spec =
     tie.close
     (tie.spec
-    (λ c. search rules)
     (λ c κs. search rules)
     (λ c. search rules)
     (λ c. search rules)

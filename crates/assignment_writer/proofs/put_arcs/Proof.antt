@@ -24,29 +24,29 @@ graph s = graph_of s.args.s s.args.row.now s.args.column.now s.args.weight.now
 
 loop-holds : tie.Need-loop-e-init invariant-loop decreases-loop
 loop-holds c =
-    let s = c.before.before.before in
+    let s = c in
     let S = s.requires.1.sound in
-    lines_start (arcs_growing (graph s)) (length s.args.row.now) 19 64 s.args.out.now s.args.start
+    lines_start (arcs_growing (graph s.before.before.before)) (length s.args.row.now) 19 64 s.args.out.now s.args.start
     (omega (arith, s.requires.0, S.row_long, S.sizes.few))
 
 put-arc-requires : tie.Need-put_arc-at-requires invariant-loop decreases-loop
 put-arc-requires c κs =
-    let l = c.before.before in
-    let s = l.before.before.before.before in
+    let l = c in
+    let s = l in
     let P = s.requires.1 in
     let lt = c.loop-e-test.true in (
-      omega (arith, lines-room (arcs_growing (graph s)) (length s.args.row.now) 19 64 l.loop-e.invariant lt),
+      omega (arith, lines-room (arcs_growing (graph s.before.before.before.before.before.before)) (length s.args.row.now) 19 64 l.loop-e.invariant lt),
       (lt, omega (arith, lt, P.sound.row_long, P.sound.column_long), omega (arith, lt, P.sound.row_long, P.weight_long)),
     )
 
 loop-again : tie.Need-loop-e-preserved invariant-loop decreases-loop
 loop-again c =
     let p = c.put_arc-at in
-    let test = c.before.before.before.before in
+    let test = c in
     let lt = test.loop-e-test.true in
-    let s = test.before.before.before.before.before in
+    let s = test in
     let P = s.requires.1 in
-    lines_more (arcs_growing (graph s)) (length s.args.row.now) 19 64 test.loop-e.invariant lt (arc_text_le P _ (omega (arith, lt, P.sound.row_long)))
+    lines_more (arcs_growing (graph s.before.before.before.before.before.before.before.before.before)) (length s.args.row.now) 19 64 test.loop-e.invariant lt (arc_text_le P _ (omega (arith, lt, P.sound.row_long)))
     p.auto.out p.ensures
 
 same_length : tie.Need-shape_of-out invariant-loop decreases-loop
@@ -54,9 +54,9 @@ same_length c = c.loop-e.invariant.long
 
 returns : tie.Need-returns invariant-loop decreases-loop
 returns c =
-    let s = c.before.before.before.before.before in
-    puts_same (lines_end (arcs_growing (graph s)) (length s.args.row.now) 19 64 c.loop-e.invariant (omega (arith, c.loop-e-test.false)))
-    (ap (λ (n : ℕ). unlines (arc_lines (graph s) n)) s.requires.1.sound.row_long)
+    let s = c in
+    puts_same (lines_end (arcs_growing (graph s.before.before.before.before.before)) (length s.args.row.now) 19 64 c.loop-e.invariant (omega (arith, c.loop-e-test.false)))
+    (ap (λ (n : ℕ). unlines (arc_lines (graph s.before.before.before.before.before) n)) s.requires.1.sound.row_long)
 
 pub put_arcs_spec : {M : Type 1} → statement M
 put_arcs_spec =

@@ -17,32 +17,32 @@ cleared c = c.clear_bytes.auto.out ∙ (begun c).requires.0
 
 put-sources-requires : tie.Need-put_sources-b-requires
 put-sources-requires c κs =
-    let problem = c.before.before.before in
-    let z = problem.before.before.before.before in
-    let P = (begun z).requires.1 in
+    let problem = c in
+    let z = problem in
+    let P = (begun z.before.before.before.before.before.before.before).requires.1 in
     let p = problem.put_problem-a in
-    (P.sound.sizes.rows.greatest, sources_room P (cleared z) p.ensures p.auto.out)
+    (P.sound.sizes.rows.greatest, sources_room P (cleared z.before.before.before.before.before.before.before) p.ensures p.auto.out)
 
 put-arcs-requires : tie.Need-put_arcs-requires
 put-arcs-requires c κs =
-    let sources = c.before.before.before in
-    let problem = sources.before.before.before.before in
-    let z = problem.before.before.before.before in
-    let P = (begun z).requires.1 in
+    let sources = c in
+    let problem = sources in
+    let z = problem in
+    let P = (begun z.before.before.before.before.before.before.before.before.before.before.before).requires.1 in
     let p = problem.put_problem-a in
     let q = sources.put_sources-b in
-    (arcs_room P (cleared z) p.ensures p.auto.out q.ensures q.auto.out, P)
+    (arcs_room P (cleared z.before.before.before.before.before.before.before.before.before.before.before) p.ensures p.auto.out q.ensures q.auto.out, P)
 
 returns : tie.Need-returns
 returns c =
-    let arcs = c.before.before in
-    let sources = arcs.before.before.before.before in
-    let problem = sources.before.before.before.before in
-    let z = problem.before.before.before.before in
-    let s = begun z in
+    let arcs = c in
+    let sources = arcs in
+    let problem = sources in
+    let z = problem in
+    let s = begun z.before.before.before.before.before.before.before.before.before.before.before.before.before.before in
     let p = problem.put_problem-a in
     let q = sources.put_sources-b in
-    text_written s.requires.1 (cleared z) p.ensures p.auto.out q.ensures q.auto.out arcs.put_arcs.ensures
+    text_written s.requires.1 (cleared z.before.before.before.before.before.before.before.before.before.before.before.before.before.before) p.ensures p.auto.out q.ensures q.auto.out arcs.put_arcs.ensures
     (z.clear_bytes.ensures ∙ ap (λ (n : ℕ). replicate n 0) s.requires.0)
 
 pub put_assignment_spec : {M : Type 1} → statement M

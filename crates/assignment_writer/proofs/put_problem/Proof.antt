@@ -7,10 +7,10 @@ use Rattle.assignment_writer.proofs.put_problem.Tie as tie
 
 returns : tie.Need-returns
 returns c =
-    let second = c.before.before in
-    let first = second.before.before.before.before.before in
-    let tag = first.before.before.before.before.before.before in
-    let s = tag.before.before.before.before in
+    let second = c in
+    let first = second in
+    let tag = first in
+    let s = tag in
     let t = s.args.s in
     problem_put (t.rows + t.columns) t.edges s.requires tag.put_bytes-a.ensures first.put_field-b.ensures second.put_field.ensures
 
@@ -18,7 +18,6 @@ pub put_problem_spec : {M : Type 1} → statement M
 put_problem_spec =
     tie.close
     (tie.spec
-    (λ c. search rules)
     (λ c κs. search rules)
     (λ c. search rules)
     (λ c. search rules)

@@ -6,10 +6,10 @@ use Rattle.assignment_writer.proofs.put_source.Tie as tie
 
 returns : tie.Need-returns
 returns c =
-    let node = c.before.before in
-    let tag = node.before.before.before.before in
-    let number = tag.before.before.before in
-    let s = number.before.before in
+    let node = c in
+    let tag = node in
+    let number = tag in
+    let s = number in
     source_put s.args.v s.requires tag.put_bytes-a.ensures number.source_node-node.ensures node.put_field.ensures
 
 pub put_source_spec : {M : Type 1} → statement M
@@ -17,7 +17,6 @@ put_source_spec =
     tie.close
     (tie.spec
     (λ c κs. search rules)
-    (λ c. search rules)
     (λ c κs. search rules)
     (λ c κs. search rules)
     (λ c. search rules)

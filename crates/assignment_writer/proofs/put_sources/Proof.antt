@@ -14,20 +14,20 @@ abbrev decreases-loop : tie.decreases-loop-v
 decreases-loop out₀ start rows at₀ v₀ out at v = rows - v
 
 loop-holds : tie.Need-loop-v-init invariant-loop decreases-loop
-loop-holds c = let s = c.before in lines_start sources_growing s.args.rows 6 32 s.args.out.now s.args.start (omega (arith, s.requires.0, s.requires.1))
+loop-holds c = let s = c in lines_start sources_growing s.args.rows 6 32 s.args.out.now s.args.start (omega (arith, s.requires.0, s.requires.1))
 
 put-source-requires : tie.Need-put_source-at-requires invariant-loop decreases-loop
 put-source-requires c κs =
-    let l = c.before.before in
-    let s = l.before.before in
+    let l = c in
+    let s = l in
     omega (arith, lines-room sources_growing s.args.rows 6 32 l.loop-v.invariant c.loop-v-test.true)
 
 loop-again : tie.Need-loop-v-preserved invariant-loop decreases-loop
 loop-again c =
     let p = c.put_source-at in
-    let test = c.before.before.before.before in
+    let test = c in
     let lt = test.loop-v-test.true in
-    let s = test.before.before.before in
+    let s = test in
     lines_more sources_growing s.args.rows 6 32 test.loop-v.invariant lt (source_text_few _ (omega (arith, s.requires.0, lt))) p.auto.out p.ensures
 
 same_length : tie.Need-shape_of-out invariant-loop decreases-loop

@@ -20,29 +20,29 @@ room s = length s.args.out.now
 
 returns : tie.Need-returns-in-Refused
 returns c =
-    let refusal = c.before.before.before.before in
-    let tests = refusal.before in
-    let s = tests.before.before.before.before in
-    let w = refused (graph s) s.args.bound.now (room s) tests.check_assignment.ensures refusal.in-Refused.is in
-    (sym (ap (λ (o : Outcome (List ℕ)). told (reported length o)) w), c.clear_bytes.ensures ∙ sym (ap (output (room s) 0 (λ t. t)) w))
+    let refusal = c in
+    let tests = refusal in
+    let s = tests in
+    let w = refused (graph s.before.before.before.before.before.before.before.before.before) s.args.bound.now (room s.before.before.before.before.before.before.before.before.before) tests.check_assignment.ensures refusal.in-Refused.is in
+    (sym (ap (λ (o : Outcome (List ℕ)). told (reported length o)) w), c.clear_bytes.ensures ∙ sym (ap (output (room s.before.before.before.before.before.before.before.before.before) 0 (λ t. t)) w))
 
 answer-assignment-requires : tie.Need-answer_assignment-requires
 answer-assignment-requires c κs =
-    let tests = c.before.before in
-    let s = tests.before.before.before.before in
+    let tests = c in
+    let s = tests in
     let says = tests.check_assignment.ensures in
     let is = c.in_default.is in
-    (size (graph s) s.args.bound.now (room s) says is, passed (graph s) s.args.bound.now (room s) says is)
+    (size (graph s.before.before.before.before.before.before) s.args.bound.now (room s.before.before.before.before.before.before) says is, passed (graph s.before.before.before.before.before.before) s.args.bound.now (room s.before.before.before.before.before.before) says is)
 
 returns-2 : tie.Need-returns
 returns-2 c =
-    let told-passed = c.before.before.before.before in
-    let tests = told-passed.before in
-    let s = tests.before.before.before.before in
+    let told-passed = c in
+    let tests = told-passed in
+    let s = tests in
     let says = tests.check_assignment.ensures in
     let is = told-passed.in_default.is in
-    let text = yielded (graph s) s.args.bound.now (room s) says is in
-    let long = size (graph s) s.args.bound.now (room s) says is in
+    let text = yielded (graph s.before.before.before.before.before.before.before.before.before) s.args.bound.now (room s.before.before.before.before.before.before.before.before.before) says is in
+    let long = size (graph s.before.before.before.before.before.before.before.before.before) s.args.bound.now (room s.before.before.before.before.before.before.before.before.before) says is in
     let a = c.answer_assignment in
     (answered text long a.new.0 a.result a.ensures, filled_in text long a.new.0 a.result a.ensures)
 

@@ -21,7 +21,7 @@ away : (c : Turn) → c.loop-vertex.vertex ≢ c.args.root
 away c = λ q. omega (arith, q, c.loop-vertex-test.true)
 
 loop-holds : tie.Need-loop-vertex-init invariant-loop decreases-loop
-loop-holds c = let start = c.before.before.before in starts start.requires.0 start.requires.1
+loop-holds c = let start = c in starts start.requires.0 start.requires.1
 
 mul-edge : tie.Need-offset_bounds-label-vertex invariant-loop decreases-loop
 mul-edge c = omega (arith, vertex_low c.loop-vertex.invariant)
@@ -30,52 +30,52 @@ element-copy-out-edge : tie.Need-bounds-label-vertex invariant-loop decreases-lo
 element-copy-out-edge c = vertex_low c.loop-vertex.invariant
 
 cast-other-end : tie.Need-overflow_cast-edge invariant-loop decreases-loop
-cast-other-end c = let turn = c.before in omega (arith, edge_low turn.loop-vertex.invariant (away turn))
+cast-other-end c = let turn = c in omega (arith, edge_low turn.loop-vertex.invariant (away turn.before.before))
 
 other-end-requires : tie.Need-other_end-next-requires invariant-loop decreases-loop
-other-end-requires c κs = let turn = c.before in let going = turn.loop-vertex.invariant in (is-sound going, edge_inside going (away turn))
+other-end-requires c κs = let turn = c in let going = turn.loop-vertex.invariant in (is-sound going, edge_inside going (away turn.before.before))
 
 cast-relist : tie.Need-overflow_cast-edge-in-loop-vertex invariant-loop decreases-loop
-cast-relist c = let turn = c.before.before in omega (arith, edge_low turn.loop-vertex.invariant (away turn))
+cast-relist c = let turn = c in omega (arith, edge_low turn.loop-vertex.invariant (away turn.before.before.before))
 
 slice-read-relist : tie.Need-bounds-chosen-edge invariant-loop decreases-loop
-slice-read-relist c = let turn = c.before.before.before in edge_in-marks turn.loop-vertex.invariant (away turn)
+slice-read-relist c = let turn = c in edge_in-marks turn.loop-vertex.invariant (away turn.before.before.before.before)
 
 relist-requires : tie.Need-relist-hole-requires invariant-loop decreases-loop
 relist-requires c κs =
-    let turn = c.before.before.before.before.before in
+    let turn = c in
     let going = turn.loop-vertex.invariant in
-    (edge_low going (away turn), hole_fits going (away turn))
+    (edge_low going (away turn.before.before.before.before.before.before), hole_fits going (away turn.before.before.before.before.before.before))
 
 cast-flip : tie.Need-overflow_cast-edge-in-loop-vertex-2 invariant-loop decreases-loop
-cast-flip c = let turn = c.before.before.before.before.before.before.before.before in omega (arith, edge_low turn.loop-vertex.invariant (away turn))
+cast-flip c = let turn = c in omega (arith, edge_low turn.loop-vertex.invariant (away turn.before.before.before.before.before.before.before.before.before))
 
 flip-requires : tie.Need-flip-requires invariant-loop decreases-loop
 flip-requires c κs =
-    let turn = c.before.before.before.before.before.before.before.before in
+    let turn = c in
     let going = turn.loop-vertex.invariant in
-    (edge_in-marks going (away turn), mark_low going (away turn))
+    (edge_in-marks going (away turn.before.before.before.before.before.before.before.before.before), mark_low going (away turn.before.before.before.before.before.before.before.before.before))
 
 sub-left : tie.Need-overflow_sub-left invariant-loop decreases-loop
 sub-left c =
-    let at-relist = c.before.before.before.before.before in
-    let turn = at-relist.before.before.before.before.before.before in
+    let at-relist = c in
+    let turn = at-relist in
     some_left turn.loop-vertex.invariant
 
 loop-less : tie.Need-loop-vertex-smaller invariant-loop decreases-loop
 loop-less c =
-    let at-relist = c.before.before.before.before.before in
-    let turn = at-relist.before.before.before.before.before.before in
+    let at-relist = c in
+    let turn = at-relist in
     omega (arith, some_left turn.loop-vertex.invariant)
 
 loop-again : tie.Need-loop-vertex-preserved invariant-loop decreases-loop
 loop-again c =
-    let at-flip = c.before.before in
-    let at-relist = at-flip.before.before.before in
-    let at-other-end = at-relist.before.before.before.before in
-    let turn = at-other-end.before.before in
+    let at-flip = c in
+    let at-relist = at-flip in
+    let at-other-end = at-relist in
+    let turn = at-other-end in
     let going = turn.loop-vertex.invariant in
-    goes going (away turn) at-flip.flip.ensures at-other-end.other_end-next.ensures at-relist.relist-hole.ensures (omega (arith, some_left going))
+    goes going (away turn.before.before.before.before.before.before.before.before.before.before.before.before) at-flip.flip.ensures at-other-end.other_end-next.ensures at-relist.relist-hole.ensures (omega (arith, some_left going))
 
 same_length : tie.Need-shape_of-chosen invariant-loop decreases-loop
 same_length c = marks_long c.loop-vertex.invariant
@@ -86,7 +86,7 @@ same-length-2 c = c.loop-vertex.invariant.list_length
 returns : tie.Need-returns invariant-loop decreases-loop
 returns c =
     let going = c.loop-vertex.invariant in
-    (arrives going (omega (arith, c.loop-vertex-test.false)), (keeps-lists going (omega (arith, c.loop-vertex-test.false)), going.lists.place-long))
+    (arrives going (omega (arith, c.loop-vertex-test.false)), (keeps-lists going (omega (arith, c.loop-vertex-test.false)), going.lists.place_long))
 
 pub augment_spec : {M : Type 1} → statement M
 augment_spec =

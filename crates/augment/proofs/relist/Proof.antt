@@ -19,7 +19,7 @@ returns c =
 
 put-natural-requires : tie.Need-put_natural-requires
 put-natural-requires c κs =
-    let start = c.before.before in
+    let start = c in
     (start.requires.1 (omega (arith, c.if-mark-gt0.false)), omega (arith, start.requires.0))
 
 returns-2 : tie.Need-returns

@@ -48,22 +48,22 @@ slice-aggregate-note c = sym c.loop-e.invariant.1.long
 
 note-requires : tie.Need-note-requires invariant-loop decreases-loop
 note-requires c κs =
-    let at-loop-test = c.before.before.before in
-    let at-loop = at-loop-test.before in
+    let at-loop-test = c in
+    let at-loop = at-loop-test in
     let pre = at-loop.requires in
     (at-loop.loop-e.invariant.1.long, (pre.1 at-loop.loop-e.e at-loop-test.loop-e-test.true))
 
 returns : tie.Need-returns-then-note invariant-loop decreases-loop
 returns c =
-    let place = c.before.before in
-    let at-loop-test = place.before.before.before.before in
+    let place = c in
+    let at-loop-test = place in
     let inv = at-loop-test.loop-e.invariant in
     kept_broken inv.0 at-loop-test.loop-e-test.true (ap not (sym (answer place) ∙ c.if-note.true))
 
 loop-again : tie.Need-loop-e-preserved invariant-loop decreases-loop
 loop-again c =
-    let place = c.before.before in
-    let at-loop-test = place.before.before.before.before in
+    let place = c in
+    let at-loop-test = place in
     let inv = at-loop-test.loop-e.invariant in
     (kept_more inv.0 at-loop-test.loop-e-test.true (ap not (sym (answer place) ∙ c.if-note.false)), noted place)
 

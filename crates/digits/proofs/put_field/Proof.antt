@@ -5,7 +5,7 @@ use Rattle.digits.proofs.put_field.Statement.{statement}
 use Rattle.digits.proofs.put_field.Tie as tie
 
 returns : tie.Need-returns
-returns c = let s = c.before.before.before.before.before in field_put s.args.byte s.requires c.put_decimal-end.ensures
+returns c = let s = c in field_put s.args.byte s.requires c.put_decimal-end.ensures
 
 pub put_field_spec : {M : Type 1} → statement M
 put_field_spec =

@@ -15,16 +15,16 @@ same_length c = c.put_decimal.auto.out ∙ simp length-set
 
 returns : tie.Need-returns-then-z-lt0
 returns c =
-    let m = c.before.before.before.before.before in
-    let s = m.before.before in
+    let m = c in
+    let s = m in
     negative_put s.args.out.now s.args.at s.args.z m.magnitude-n.result s.ranges.z s.requires m.magnitude-n.ensures
     c.if-z-lt0.true
     c.put_decimal.ensures
 
 returns-2 : tie.Need-returns-else-z-lt0
 returns-2 c =
-    let m = c.before.before.before.before.before in
-    let s = m.before.before in
+    let m = c in
+    let s = m in
     positive_put s.args.out.now s.args.at s.args.z m.magnitude-n.result s.ranges.z s.requires m.magnitude-n.ensures
     c.if-z-lt0.false
     c.put_decimal-else-z-lt0.ensures

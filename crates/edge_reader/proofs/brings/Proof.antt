@@ -11,7 +11,7 @@ returns c =
 
 returns-2 : tie.Need-returns-in-Refused
 returns-2 c =
-    let at-edge2 = c.before in
+    let at-edge2 = c in
     let args = at-edge2.args in
     brings_fault args.next at-edge2.in-Refused.is c.refused_at.ensures
 

@@ -10,8 +10,8 @@ use Rattle.edge_reader.proofs.edge_words.Tie as tie
 
 returns : tie.Need-returns-in_default
 returns c =
-    let at-two-naturals-in = c.before in
-    let at-enum-told2 = at-two-naturals-in.before in
+    let at-two-naturals-in = c in
+    let at-enum-told2 = at-two-naturals-in in
     let args = at-enum-told2.args in
     let ws = words (part args.text.now args.start args.end) in
     pattern_bad args.rules ws at-two-naturals-in.two_naturals_in.ensures c.in_default.is
@@ -24,8 +24,8 @@ returns-2 c =
 
 returns-3 : tie.Need-returns-in-Is
 returns-3 c =
-    let at-two-naturals-in = c.before in
-    let at-enum-told2 = at-two-naturals-in.before in
+    let at-two-naturals-in = c in
+    let at-enum-told2 = at-two-naturals-in in
     let args = at-enum-told2.args in
     let ws = words (part args.text.now args.start args.end) in
     pattern_is args.rules ws at-two-naturals-in.two_naturals_in.ensures c.in-Is.is

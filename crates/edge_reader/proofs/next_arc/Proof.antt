@@ -29,30 +29,30 @@ brings-requires c κs =
 
 returns : tie.Need-returns-then-more
 returns c =
-    let at_place = c.before.before in
-    let at-entry-line = at_place.before in
+    let at_place = c in
+    let at-entry-line = at_place in
     let args = at-entry-line.args in
     arc_missing at-entry-line.entry_line.ensures args.s at_place.in-Ended.is c.if-more.true (ap NextEdge.Refused c.wrong_line.ensures)
 
 returns-2 : tie.Need-returns-in-At
 returns-2 c =
-    let at-start = c.before.before.before in
-    let at-entry-line = at-start.before in
+    let at-start = c in
+    let at-entry-line = at-start in
     let args = at-entry-line.args in
     arc-line at-entry-line.entry_line.ensures args.s at-start.in-At.is c.wanted_arc.result c.wanted_arc.ensures.0
     c.wanted_arc.ensures.1.0 c.wanted_arc.ensures.1.1 c.brings.ensures
 
 returns-3 : tie.Need-returns-else-more
 returns-3 c =
-    let at_place = c.before in
-    let at-entry-line = at_place.before in
+    let at_place = c in
+    let at-entry-line = at_place in
     let args = at-entry-line.args in
     arcs_end at-entry-line.entry_line.ensures args.s at_place.in-Ended.is c.if-more.false
 
 returns-4 : tie.Need-returns-in-Long
 returns-4 c =
-    let at-place2 = c.before in
-    let at-entry-line = at-place2.before in
+    let at-place2 = c in
+    let at-entry-line = at-place2 in
     let args = at-entry-line.args in
     arc_long at-entry-line.entry_line.ensures args.s at-place2.in-Long.is (ap NextEdge.Refused c.wrong_line-in-Long.ensures)
 

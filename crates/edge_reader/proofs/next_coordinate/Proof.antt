@@ -12,26 +12,26 @@ coordinate-on-requires c κs =
 
 brings-requires : tie.Need-brings-requires
 brings-requires c κs =
-    let start = c.before.before.before.before in
+    let start = c in
     weight_ranged start.args.s c.coordinate_on.result c.coordinate_on.ensures.1
 
 returns : tie.Need-returns-in-Done
 returns c =
-    let at-later-line = c.before in
+    let at-later-line = c in
     let args = at-later-line.args in
     coordinates_end args.rules args.field at-later-line.later_line.ensures args.s c.in-Done.is
 
 returns-2 : tie.Need-returns-in-Refused
 returns-2 c =
-    let at-later-line = c.before in
+    let at-later-line = c in
     let args = at-later-line.args in
     coordinates_refused args.rules args.field at-later-line.later_line.ensures args.s c.in-Refused.is
 
 returns-3 : tie.Need-returns-in-At
 returns-3 c =
-    let at-start = c.before.before in
-    let at-later-line = at-start.before in
-    let start = at-later-line.before.before in
+    let at-start = c in
+    let at-later-line = at-start in
+    let start = at-later-line in
     let args = start.args in
     coordinates_line args.rules args.field at-later-line.later_line.ensures args.s at-start.in-At.is
     c.coordinate_on.result c.coordinate_on.ensures.0 c.coordinate_on.ensures.1 c.brings.ensures

@@ -8,7 +8,7 @@ use Rattle.edge_reader.proofs.next_edge.Tie as tie
 
 returns : tie.Need-returns-in-Coordinates
 returns c =
-    let at-what = c.before in
+    let at-what = c in
     let args = at-what.args in
     λ row column weight right. subst
     (λ what. NextAs what args.text.now args.c (graph_of args.s row column weight) c.next_coordinate.result) (sym at-what.in-Coordinates.is)

@@ -45,7 +45,7 @@ same-length-3 c =
 
 returns : tie.Need-returns-in-Done invariant-loop decreases-loop
 returns c =
-    let at-next-edge = c.before in
+    let at-next-edge = c in
     let loop = at-next-edge.loop-r in
     turn_done loop.invariant at-next-edge.next_edge.ensures c.in-Done.is
 
@@ -66,7 +66,7 @@ same-length-6 c =
 
 returns-2 : tie.Need-returns-in-Refused invariant-loop decreases-loop
 returns-2 c =
-    let at-next-edge = c.before in
+    let at-next-edge = c in
     let loop = at-next-edge.loop-r in
     turn_refused loop.invariant at-next-edge.next_edge.ensures c.in-Refused.is
 
@@ -77,8 +77,8 @@ slice-aggregate-note c =
 
 note-requires : tie.Need-note-requires invariant-loop decreases-loop
 note-requires c κs =
-    let at-r2 = c.before in
-    let at-next-edge = at-r2.before in
+    let at-r2 = c in
+    let at-next-edge = at-r2 in
     let loop = at-next-edge.loop-r in
     (loop.invariant.flags.long, turn_flagged loop.invariant at-next-edge.next_edge.ensures at-r2.in-Is.is)
 
@@ -99,45 +99,45 @@ same-length-9 c =
 
 returns-3 : tie.Need-returns-then-note invariant-loop decreases-loop
 returns-3 c =
-    let at-note = c.before.before.before in
-    let at-r2 = at-note.before.before in
-    let at-next-edge = at-r2.before in
+    let at-note = c in
+    let at-r2 = at-note in
+    let at-next-edge = at-r2 in
     let loop = at-next-edge.loop-r in
     turn_repeats loop.invariant at-next-edge.next_edge.ensures at-r2.in-Is.is at-note.note.ensures.0 c.if-note.true
     c.refused_at.ensures
 
 slice-write-row : tie.Need-bounds-row-i invariant-loop decreases-loop
 slice-write-row c =
-    let at-r2 = c.before.before.before.before in
-    let at-next-edge = at-r2.before in
+    let at-r2 = c in
+    let at-next-edge = at-r2 in
     let loop = at-next-edge.loop-r in
     omega (arith, turn_below loop.invariant at-next-edge.next_edge.ensures at-r2.in-Is.is, row_length loop.invariant)
 
 slice-write-column : tie.Need-bounds-column-i invariant-loop decreases-loop
 slice-write-column c =
-    let at-r2 = c.before.before.before.before in
-    let at-next-edge = at-r2.before in
+    let at-r2 = c in
+    let at-next-edge = at-r2 in
     let loop = at-next-edge.loop-r in
     omega (arith, turn_below loop.invariant at-next-edge.next_edge.ensures at-r2.in-Is.is, column_length loop.invariant)
 
 slice-set-from-w : tie.Need-bounds-weight-i invariant-loop decreases-loop
 slice-set-from-w c =
-    let at-r2 = c.before.before.before.before in
-    let at-next-edge = at-r2.before in
+    let at-r2 = c in
+    let at-next-edge = at-r2 in
     let loop = at-next-edge.loop-r in
     omega (arith, turn_below loop.invariant at-next-edge.next_edge.ensures at-r2.in-Is.is, weight_length loop.invariant)
 
 add-i : tie.Need-overflow_add-i invariant-loop decreases-loop
 add-i c =
-    let at-r2 = c.before.before.before.before in
-    let at-next-edge = at-r2.before in
+    let at-r2 = c in
+    let at-next-edge = at-r2 in
     let loop = at-next-edge.loop-r in
     omega (arith, turn_below loop.invariant at-next-edge.next_edge.ensures at-r2.in-Is.is)
 
 loop-less : tie.Need-loop-r-smaller invariant-loop decreases-loop
 loop-less c =
-    let at-r2 = c.before.before.before.before in
-    let at-next-edge = at-r2.before in
+    let at-r2 = c in
+    let at-next-edge = at-r2 in
     let loop = at-next-edge.loop-r in
     omega (
       arith,
@@ -148,9 +148,9 @@ loop-less c =
 
 loop-again : tie.Need-loop-r-preserved invariant-loop decreases-loop
 loop-again c =
-    let at-note = c.before.before in
-    let at-r2 = at-note.before.before in
-    let at-next-edge = at-r2.before in
+    let at-note = c in
+    let at-r2 = at-note in
+    let at-next-edge = at-r2 in
     let loop = at-next-edge.loop-r in
     turn_takes loop.invariant at-next-edge.next_edge.ensures at-r2.in-Is.is at-note.note.ensures.0 c.if-note.false _
     at-note.note.ensures.1

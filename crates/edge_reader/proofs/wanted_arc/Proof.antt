@@ -7,8 +7,8 @@ use Rattle.edge_reader.proofs.wanted_arc.Tie as tie
 
 returns : tie.Need-returns-then-more
 returns c =
-    let at_source = c.before.before in
-    let at-entry-on = at_source.before in
+    let at_source = c in
+    let at-entry-on = at_source in
     let args = at-entry-on.args in (
       arc_taken args.line.now at-entry-on.entry_on.ensures args.s args.more at_source.in-Arc.is c.if-more.true
           c.arc_edge.result (cost-back args.line.now at-entry-on.entry_on.ensures args.s args.more at_source.in-Arc.is)
@@ -18,26 +18,26 @@ returns c =
 
 returns-2 : tie.Need-returns-else-more
 returns-2 c =
-    let at_source = c.before in
-    let at-entry-on = at_source.before in
+    let at_source = c in
+    let at-entry-on = at_source in
     let args = at-entry-on.args in
     (arc_surplus args.line.now at-entry-on.entry_on.ensures args.s args.more at_source.in-Arc.is c.if-more.false, (tt, tt))
 
 returns-3 : tie.Need-returns-in-Problem
 returns-3 c =
-    let at-entry-on = c.before in
+    let at-entry-on = c in
     let args = at-entry-on.args in
     (problem_out args.line.now at-entry-on.entry_on.ensures args.s args.more c.in-Problem.is, (tt, tt))
 
 returns-4 : tie.Need-returns-in-Source
 returns-4 c =
-    let at-entry-on = c.before in
+    let at-entry-on = c in
     let args = at-entry-on.args in
     (source_out args.line.now at-entry-on.entry_on.ensures args.s args.more c.in-Source.is, (tt, tt))
 
 returns-5 : tie.Need-returns-in-Bad
 returns-5 c =
-    let at-entry-on = c.before in
+    let at-entry-on = c in
     let args = at-entry-on.args in
     (bad_out args.line.now at-entry-on.entry_on.ensures args.s args.more c.in-Bad.is, (tt, tt))
 

@@ -7,13 +7,13 @@ use Rattle.entries.proofs.arc_on.Tie as tie
 
 returns : tie.Need-returns-in_default
 returns c =
-    let at-edge-line = c.before in
+    let at-edge-line = c in
     let args = at-edge-line.args in
     arc_bad (words args.rest.now) at-edge-line.edge_line.ensures c.in_default.is
 
 returns-2 : tie.Need-returns
 returns-2 c =
-    let at-edge-line = c.before in
+    let at-edge-line = c in
     let args = at-edge-line.args in
     arc_is (words args.rest.now) at-edge-line.edge_line.ensures c.in-Is.is
 

@@ -8,13 +8,13 @@ use Rattle.entries.proofs.source_on.Tie as tie
 
 returns : tie.Need-returns-in_default
 returns c =
-    let at-one-natural = c.before in
+    let at-one-natural = c in
     let args = at-one-natural.args in
     source_as (words args.rest.now) at-one-natural.one_natural.ensures Natural.Bad c.in_default.is
 
 returns-2 : tie.Need-returns
 returns-2 c =
-    let at-one-natural = c.before in
+    let at-one-natural = c in
     let args = at-one-natural.args in
     source_as (words args.rest.now) at-one-natural.one_natural.ensures (Natural.Is _) c.in-Is.is
 

@@ -25,16 +25,16 @@ told c =
 
 returns : tie.Need-returns-in-Refused
 returns c =
-    let tests = c.before in
-    let s = begun tests.before in
-    bounded_refused (graph s) s.args.bound.now s.args.vertex s.args.edge (told tests.before) tests.check_bounded.ensures c.in-Refused.is
+    let tests = c in
+    let s = begun tests.before.before in
+    bounded_refused (graph s) s.args.bound.now s.args.vertex s.args.edge (told tests.before.before) tests.check_bounded.ensures c.in-Refused.is
 
 returns-2 : tie.Need-returns
 returns-2 c =
-    let passed = c.before.before in
-    let tests = passed.before in
-    let s = begun tests.before in
-    doubled-last (graph s) s.args.bound.now s.args.vertex s.args.edge (told tests.before) tests.check_bounded.ensures
+    let passed = c in
+    let tests = passed in
+    let s = begun tests.before.before.before.before in
+    doubled-last (graph s) s.args.bound.now s.args.vertex s.args.edge (told tests.before.before.before.before) tests.check_bounded.ensures
     passed.in_default.is c.can_double.ensures c.check_once-last.ensures
 
 pub check_general_spec : {M : Type 1} → statement M

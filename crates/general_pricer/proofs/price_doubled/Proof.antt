@@ -96,12 +96,12 @@ module _ (c : tie.After-join_integers-2) where
 
   abbrev built : Graph
   built =
-      graph_of counted.before.doubled-shape.result (front (second (third (fourth c))).join_naturals.new.1.1.0 0)
+      graph_of counted.before.doubled_shape.result (front (second (third (fourth c))).join_naturals.new.1.1.0 0)
       (front (third (fourth c)).join_naturals-2.new.1.1.0 0) (front (fourth c).join_integers.new.1.1.0 (pos 0))
 
   graph-built : built ≡ doubled (graph (begun counted))
   graph-built =
-      let d = counted.before.doubled-shape.ensures in
+      let d = counted.before.doubled_shape.ensures in
       let rows = second (third (fourth c)) in
       let columns = third (fourth c) in
       let weights = fourth c in
@@ -121,7 +121,7 @@ slice-aggregate-join-naturals c = zeros-lent 0 1024 (size_fits c.before.before)
 
 join-naturals-requires : tie.Need-join_naturals-requires
 join-naturals-requires c κs =
-    let s = c.before.before.before.before.before.before in
+    let s = c in
     let sound = s.requires.0.passed.sound in
     edges_lent c.before.before 0 s.args.row.now s.args.column.now sound.row_long sound.column_long
 
@@ -130,7 +130,7 @@ slice-aggregate-join-naturals-2 c = zeros-lent 0 1024 (size_fits c.before.before
 
 join-naturals-requires-2 : tie.Need-join_naturals-requires-2
 join-naturals-requires-2 c κs =
-    let s = c.before.before.before.before.before.before.before.before.before in
+    let s = c in
     let sound = s.requires.0.passed.sound in
     edges_lent c.before.before.before.before.before 0 s.args.column.now s.args.row.now sound.column_long sound.row_long
 
@@ -139,7 +139,7 @@ slice-aggregate-join-integers c = zeros-lent (pos 0) 1024 (size_fits c.before.be
 
 join-integers-requires : tie.Need-join_integers-requires
 join-integers-requires c κs =
-    let s = c.before.before.before.before.before.before.before.before.before.before.before.before in
+    let s = c in
     let long = s.requires.0.passed.weight_long in
     edges_lent c.before.before.before.before.before.before.before.before (pos 0) s.args.weight.now s.args.weight.now long long
 
@@ -178,7 +178,7 @@ slice-aggregate-sum-prices-4 c = (bounds-back c.before.before.before.before.befo
 
 sum-prices-requires : tie.Need-sum_prices-requires
 sum-prices-requires c κs =
-    let b = c.before.before.before.before.before.before.before in
+    let b = c in
     let v = counted b in
     let D = (begun v).requires.0 in
     let pre = (begun v).requires.1 in
@@ -186,13 +186,13 @@ sum-prices-requires c κs =
       subst Solvable (sym (graph-built b)) (record { bipartite = refl; passed = doubled-passed D }),
       (
         subst₂ Bounded (sym (vertices-are v)) (sym (bounds-built b)) (doubled-bounded D pre.0),
-        (ap₂ ◌+◌ long long ∙ sym (vertices-are v), ap₂ ◌+◌ pre.1.1 pre.1.1 ∙ sym v.before.doubled-shape.ensures.3),
+        (ap₂ ◌+◌ long long ∙ sym (vertices-are v), ap₂ ◌+◌ pre.1.1 pre.1.1 ∙ sym v.before.doubled_shape.ensures.3),
       ),
     )
 
 returns : tie.Need-returns
 returns c =
-    let b = c.before.before.before.before.before.before.before.before.before.before in
+    let b = c in
     let pre = (begun (counted b)).requires.1.1 in
     let summed = c.sum_prices in
     let kept = summed.auto.1.1.1.1.1 in

@@ -26,28 +26,28 @@ begun c = (tested c).before.before.before
 
 returns : tie.Need-returns-in-Refused
 returns c =
-    let cleared = c.before.before in
-    let says = sym (ap check_says c.in-Refused.is) ∙ (tested cleared).check_general-check.ensures in
-    (ap told says, left-refused says (first cleared).clear_integers.ensures cleared.clear_integers-2.ensures)
+    let cleared = c in
+    let says = sym (ap check_says c.in-Refused.is) ∙ (tested cleared.before.before).check_general-check.ensures in
+    (ap told says, left-refused says (first cleared.before.before).clear_integers.ensures cleared.clear_integers-2.ensures)
 
 price-doubled-requires : tie.Need-price_doubled-requires
 price-doubled-requires c κs =
-    let cleared = c.before.before.before.before in
-    let s = begun cleared in
+    let cleared = c in
+    let s = begun cleared.before.before.before.before in
     let a = s.args in
-    let says = sym (tested cleared).check_general-check.ensures ∙ ap check_says c.in_default.is in
-    let P = general-passed (graph s) a.bound.now (length a.vertex-price.now) (length a.edge-price.now) says in
-    (P.doublable, (P.bounded, ((first cleared).clear_integers.auto.out ∙ P.vertex_long, cleared.clear_integers-2.auto.out ∙ P.edge_long)))
+    let says = sym (tested cleared.before.before.before.before).check_general-check.ensures ∙ ap check_says c.in_default.is in
+    let P = general-passed (graph s) a.bound.now (length a.vertex_price.now) (length a.edge_price.now) says in
+    (P.doublable, (P.bounded, ((first cleared.before.before.before.before).clear_integers.auto.out ∙ P.vertex_long, cleared.clear_integers-2.auto.out ∙ P.edge_long)))
 
 returns-2 : tie.Need-returns
 returns-2 c =
-    let passed = c.before.before.before.before.before in
-    let cleared = passed.before.before in
-    let says = sym (tested cleared).check_general-check.ensures ∙ ap check_says passed.in_default.is in
+    let passed = c in
+    let cleared = passed in
+    let says = sym (tested cleared.before.before.before.before.before.before.before).check_general-check.ensures ∙ ap check_says passed.in_default.is in
     let priced = c.price_doubled in
     let kept = priced.auto.1.1.1.1.1 in (
       ap told (sym says),
-      left-priced says priced.ensures (kept.0 ∙ (first cleared).clear_integers.auto.out) (kept.1.0 ∙ cleared.clear_integers-2.auto.out),
+      left-priced says priced.ensures (kept.0 ∙ (first cleared.before.before.before.before.before.before.before).clear_integers.auto.out) (kept.1.0 ∙ cleared.clear_integers-2.auto.out),
     )
 
 pub price_general_spec : {M : Type 1} → statement M

@@ -46,7 +46,7 @@ slice-aggregate-solve-prices-2 c = zeros-lent (pos 0) 1024 c.requires.0.passed.s
 
 solve-prices-requires : tie.Need-solve_prices-requires
 solve-prices-requires c κs =
-    let s = c.before.before.before.before.before.before in
+    let s = c in
     let sizes = s.requires.0.passed.sound.sizes in
     let all = c.vertex_count-n.ensures in (
       s.requires.0,
@@ -61,10 +61,10 @@ slice-aggregate-sum-points c = (vertices-back c.before.before.before).long
 
 sum-points-requires : tie.Need-sum_points-requires
 sum-points-requires c κs =
-    let done = c.before.before.before.before in
-    let back = vertices-back done in
-    let all = (counted done).vertex_count-n.ensures in
-    let pre = (begun done).requires.1.1 in
+    let done = c in
+    let back = vertices-back done.before.before.before.before in
+    let all = (counted done.before.before.before.before).vertex_count-n.ensures in
+    let pre = (begun done.before.before.before.before).requires.1.1 in
     (sym back.long ∙ all ∙ sym pre.0, vertex-prices done.solve_prices.ensures back.same (sym back.long ∙ all))
 
 array-share-prefix-edges : tie.Need-slice_bounds-edges-end-2
@@ -75,17 +75,17 @@ slice-aggregate-sum-points-2 c = (edges-back c.before.before.before.before.befor
 
 sum-points-requires-2 : tie.Need-sum_points-requires-2
 sum-points-requires-2 c κs =
-    let done = c.before.before.before.before.before.before.before.before in
-    let back = edges-back done in
-    let pre = (begun done).requires.1.1 in
+    let done = c in
+    let back = edges-back done.before.before.before.before.before.before.before.before in
+    let pre = (begun done.before.before.before.before.before.before.before.before).requires.1.1 in
     (sym back.long ∙ sym pre.1, edge-prices done.solve_prices.ensures back.same (sym back.long))
 
 returns : tie.Need-returns
 returns c =
-    let done = c.before.before.before.before.before.before.before.before.before.before in
+    let done = c in
     let a = c.sum_points in
     let b = c.sum_points-2 in
-    summed done.solve_prices.ensures _ _ _ _ _ _ (vertices-back done).same (edges-back done).same a.auto.out b.auto.out a.ensures b.ensures
+    summed done.solve_prices.ensures _ _ _ _ _ _ (vertices-back done.before.before.before.before.before.before.before.before.before.before).same (edges-back done.before.before.before.before.before.before.before.before.before.before).same a.auto.out b.auto.out a.ensures b.ensures
 
 pub sum_prices_spec : {M : Type 1} → statement M
 sum_prices_spec =

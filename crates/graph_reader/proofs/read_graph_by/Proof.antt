@@ -9,11 +9,11 @@ use Rattle.graph_reader.proofs.read_graph_by.Tie as tie
 
 read-graph-lines-requires : tie.Need-read_graph_lines-requires
 read-graph-lines-requires c κs =
-    let at-enum-told = c.before.before.before in
-    let at-check-text = at-enum-told.before in
-    let at-both2 = at-check-text.before in
-    let at_both = at-both2.before in
-    let at_clear = at_both.before.before.before.before.before.before in
+    let at-enum-told = c in
+    let at-check-text = at-enum-told in
+    let at-both2 = at-check-text in
+    let at_both = at-both2 in
+    let at_clear = at_both in
     let args = at_clear.args in
     lent_cleared args.rules args.field (length args.row.now) (length args.column.now) (length args.weight.now) args.text.now
     (lengths_right at_clear.clear.ensures at_both.both-ends.ensures at-both2.both-lent.ensures) _ at-check-text.check_text.ensures
@@ -21,10 +21,10 @@ read-graph-lines-requires c κs =
 
 returns : tie.Need-returns-in-Refused
 returns c =
-    let at-check-text = c.before in
-    let at-both2 = at-check-text.before in
-    let at_both = at-both2.before in
-    let at_clear = at_both.before.before.before.before.before.before in
+    let at-check-text = c in
+    let at-both2 = at-check-text in
+    let at_both = at-both2 in
+    let at_clear = at_both in
     let args = at_clear.args in
     whole_lent args.rules args.field (length args.row.now) (length args.column.now) (length args.weight.now) args.text.now
     (lengths_right at_clear.clear.ensures at_both.both-ends.ensures at-both2.both-lent.ensures) _ at-check-text.check_text.ensures
@@ -32,12 +32,12 @@ returns c =
 
 returns-2 : tie.Need-returns-in-Graph
 returns-2 c =
-    let at-read-graph-lines = c.before.before.before.before.before.before in
-    let at-enum-told = at-read-graph-lines.before.before.before.before in
-    let at-check-text = at-enum-told.before in
-    let at-both2 = at-check-text.before in
-    let at_both = at-both2.before in
-    let at_clear = at_both.before.before.before.before.before.before in
+    let at-read-graph-lines = c in
+    let at-enum-told = at-read-graph-lines in
+    let at-check-text = at-enum-told in
+    let at-both2 = at-check-text in
+    let at_both = at-both2 in
+    let at_clear = at_both in
     let args = at_clear.args in
     let right = lengths_right at_clear.clear.ensures at_both.both-ends.ensures at-both2.both-lent.ensures in
     let passed = lent_passed args.rules args.field (length args.row.now) (length args.column.now) (length args.weight.now)
@@ -48,14 +48,14 @@ returns-2 c =
 
 returns-3 : tie.Need-returns-in-Refused-read_graph_lines
 returns-3 c =
-    let at-clear2 = c.before.before.before.before.before in
-    let at-r2 = at-clear2.before.before.before.before in
-    let at-read-graph-lines = at-r2.before.before.before.before.before.before in
-    let at-enum-told = at-read-graph-lines.before.before.before.before in
-    let at-check-text = at-enum-told.before in
-    let at-both2 = at-check-text.before in
-    let at_both = at-both2.before in
-    let at_clear = at_both.before.before.before.before.before.before in
+    let at-clear2 = c in
+    let at-r2 = at-clear2 in
+    let at-read-graph-lines = at-r2 in
+    let at-enum-told = at-read-graph-lines in
+    let at-check-text = at-enum-told in
+    let at-both2 = at-check-text in
+    let at_both = at-both2 in
+    let at_clear = at_both in
     let args = at_clear.args in
     let right = lengths_right at_clear.clear.ensures at_both.both-ends.ensures at-both2.both-lent.ensures in
     let passed = lent_passed args.rules args.field (length args.row.now) (length args.column.now) (length args.weight.now)

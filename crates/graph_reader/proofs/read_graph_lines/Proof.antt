@@ -27,9 +27,9 @@ part-header-on-end c =
 
 returns : tie.Need-returns-in_default
 returns c =
-    let at-header-on = c.before.before in
-    let at-start = at-header-on.before.before in
-    let at-header-line = at-start.before in
+    let at-header-on = c in
+    let at-start = at-header-on in
+    let at-header-line = at-start in
     let args = at-header-line.args in
     let L = graph_layout args.rules args.field in
     read_refused _
@@ -38,7 +38,7 @@ returns c =
 
 size-line-requires : tie.Need-size_line-requires
 size-line-requires c κs =
-    let at-start = c.before.before.before in
+    let at-start = c in
     let header-line = at-start.header_line in
     (opened_line header-line.ensures at-start.in-At.is).reached
 
@@ -59,15 +59,15 @@ part-shape-on-end c =
 
 read-edges-requires : tie.Need-read_edges-requires
 read-edges-requires c κs =
-    let at-s = c.before.before.before in
-    let at-shape-on = at-s.before in
-    let at-start2 = at-shape-on.before.before in
-    let at-size-line = at-start2.before in
-    let at-kind = at-size-line.before in
-    let at-header-on = at-kind.before in
-    let at-start = at-header-on.before.before in
-    let at-header-line = at-start.before in
-    let start = at-header-line.before.before.before.before in
+    let at-s = c in
+    let at-shape-on = at-s in
+    let at-start2 = at-shape-on in
+    let at-size-line = at-start2 in
+    let at-kind = at-size-line in
+    let at-header-on = at-kind in
+    let at-start = at-header-on in
+    let at-header-line = at-start in
+    let start = at-header-line in
     let L = graph_layout start.args.rules start.args.field in
     let w = header-goes L at-header-line.header_line.ensures at-start.in-At.is _
     (header_is start.args.field _ at-header-on.header_on.ensures at-kind.in-Is.is) in (
@@ -78,18 +78,18 @@ read-edges-requires c κs =
 
 returns-2 : tie.Need-returns-in-Refused
 returns-2 c =
-    let at-header-line = c.before in
+    let at-header-line = c in
     let args = at-header-line.args in
     let L = graph_layout args.rules args.field in
     read_refused _ (header_refused L at-header-line.header_line.ensures c.in-Refused.is)
 
 returns-3 : tie.Need-returns-in-Refused-size_line
 returns-3 c =
-    let at-size-line = c.before in
-    let at-kind = at-size-line.before in
-    let at-header-on = at-kind.before in
-    let at-start = at-header-on.before.before in
-    let at-header-line = at-start.before in
+    let at-size-line = c in
+    let at-kind = at-size-line in
+    let at-header-on = at-kind in
+    let at-start = at-header-on in
+    let at-header-line = at-start in
     let args = at-header-line.args in
     let L = graph_layout args.rules args.field in
     let w = header-goes L at-header-line.header_line.ensures at-start.in-At.is _
@@ -98,15 +98,15 @@ returns-3 c =
 
 returns-4 : tie.Need-returns-in-Refused-shape_on
 returns-4 c =
-    let at-fault = c.before in
+    let at-fault = c in
     let fault = at-fault.in-Refused-shape_on in
-    let at-shape-on = at-fault.before in
-    let at-start2 = at-shape-on.before.before in
-    let at-size-line = at-start2.before in
-    let at-kind = at-size-line.before in
-    let at-header-on = at-kind.before in
-    let at-start = at-header-on.before.before in
-    let at-header-line = at-start.before in
+    let at-shape-on = at-fault in
+    let at-start2 = at-shape-on in
+    let at-size-line = at-start2 in
+    let at-kind = at-size-line in
+    let at-header-on = at-kind in
+    let at-start = at-header-on in
+    let at-header-line = at-start in
     let args = at-header-line.args in
     let L = graph_layout args.rules args.field in
     let w = header-goes L at-header-line.header_line.ensures at-start.in-At.is _
@@ -117,15 +117,15 @@ returns-4 c =
 
 returns-5 : tie.Need-returns-in-Is-shape_on
 returns-5 c =
-    let at-read-edges = c.before.before.before.before.before in
-    let at-s = at-read-edges.before.before.before.before in
-    let at-shape-on = at-s.before in
-    let at-start2 = at-shape-on.before.before in
-    let at-size-line = at-start2.before in
-    let at-kind = at-size-line.before in
-    let at-header-on = at-kind.before in
-    let at-start = at-header-on.before.before in
-    let at-header-line = at-start.before in
+    let at-read-edges = c in
+    let at-s = at-read-edges in
+    let at-shape-on = at-s in
+    let at-start2 = at-shape-on in
+    let at-size-line = at-start2 in
+    let at-kind = at-size-line in
+    let at-header-on = at-kind in
+    let at-start = at-header-on in
+    let at-header-line = at-start in
     let args = at-header-line.args in
     let L = graph_layout args.rules args.field in
     let w = header-goes L at-header-line.header_line.ensures at-start.in-At.is _

@@ -11,13 +11,13 @@ returns c = (size_bad _ c.three_naturals.ensures c.in_default.is, tt)
 returns-2 : tie.Need-returns-then-sizes_in_range
 returns-2 c =
     let sizes-in-range = c.sizes_in_range in
-    let at_rows = c.before.before in
+    let at_rows = c in
     let three-naturals = at_rows.three_naturals in
     (size_in _ three-naturals.ensures at_rows.in-Is.is sizes-in-range.ensures c.if-sizes_in_range.true, sym sizes-in-range.ensures ∙ c.if-sizes_in_range.true)
 
 returns-3 : tie.Need-returns-else-sizes_in_range
 returns-3 c =
-    let at_rows = c.before.before in
+    let at_rows = c in
     let three-naturals = at_rows.three_naturals in
     (size_out _ three-naturals.ensures at_rows.in-Is.is c.sizes_in_range.ensures c.if-sizes_in_range.false, tt)
 

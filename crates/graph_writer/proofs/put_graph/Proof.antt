@@ -19,7 +19,7 @@ put-head-requires c κs = omega (arith, c.requires.0)
 
 loop-holds : tie.Need-loop-k-init invariant-loop decreases-loop
 loop-holds c =
-    let s = c.before.before.before.before.before.before.before.before in
+    let s = c in
     let h = c.put_head-at in
     edges-start s.requires.1 _ _ (head-room s.requires.1 s.args.out.now s.requires.0 h.ensures h.auto.out)
 
@@ -46,7 +46,7 @@ same_length c = c.loop-k.invariant.long ∙ c.put_head-at.auto.out
 
 returns : tie.Need-returns invariant-loop decreases-loop
 returns c =
-    let s = c.before.before.before.before.before.before.before.before.before.before in
+    let s = c in
     let lines = edges-end s.requires.1 c.loop-k.invariant (omega (arith, c.loop-k-test.false)) in
     graph_written s.requires.1 s.args.out.now s.requires.0 c.put_head-at.ensures lines
 

@@ -17,19 +17,19 @@ room c = omega (arith, (begun c).requires.1.sound.sizes.few, c.fill_own.auto.ord
 
 slice-aggregate-put-graph : tie.Need-slice_bounds-put_graph-end
 slice-aggregate-put-graph c =
-    let t = c.before.before.before in
-    first_long (begun t).args.s.edges t.fill_own.new.0 (room t)
+    let t = c in
+    first_long (begun t.before.before.before).args.s.edges t.fill_own.new.0 (room t.before.before.before)
 
 put-graph-requires : tie.Need-put_graph-requires
 put-graph-requires c κs =
-    let t = c.before.before.before in
-    ((begun t).requires.0, own_ordered (begun t).requires.1 t.fill_own.new.0 (room t) t.fill_own.ensures)
+    let t = c in
+    ((begun t.before.before.before).requires.0, own_ordered (begun t.before.before.before).requires.1 t.fill_own.new.0 (room t.before.before.before) t.fill_own.ensures)
 
 returns : tie.Need-returns
 returns c =
-    let at-put-graph = c.before.before in
-    let t = at-put-graph.before.before.before.before in
-    own_written (begun t).requires.1 t.fill_own.new.0 (room t) t.fill_own.ensures at-put-graph.put_graph.ensures
+    let at-put-graph = c in
+    let t = at-put-graph in
+    own_written (begun t.before.before.before.before.before.before).requires.1 t.fill_own.new.0 (room t.before.before.before.before.before.before) t.fill_own.ensures at-put-graph.put_graph.ensures
 
 pub put_own_spec : {M : Type 1} → statement M
 put_own_spec =

@@ -31,9 +31,9 @@ weighed : (c : tie.After-put_signed-end) →
     let p = c.put_signed-end in
     Part s.args.out.now s.args.at (ends (row_of s) (columnOf s) ++ signed (weight_of s)) p.new.0 p.result (s.args.at + 21 + 21 + 21)
 weighed c =
-    let w = c.before.before in
-    let second = w.before.before.before in
-    let first = second.before.before.before.before.before in
+    let w = c in
+    let second = w in
+    let first = second in
     let s = begun c in
     weight_part s.requires.0 _ _ (weight_of s) w.element-w.ensures.0 w.element-w.type_inv
     (column_part s.requires.0 _ _ (row_part s.requires.0 _ first.put_field-a.ensures) second.put_field-b.ensures)
@@ -47,14 +47,14 @@ cast-put-field-2 c = omega (arith, c.shared_slice_known-4-1.given c.args.e)
 
 same_length : tie.Need-shape_of-out
 same_length c =
-    let t = c.before.before in
-    length-set t.put_signed-end.new.0 t.put_signed-end.result 10 ∙ (weighed t).long
+    let t = c in
+    length-set t.put_signed-end.new.0 t.put_signed-end.result 10 ∙ (weighed t.before.before).long
 
 returns : tie.Need-returns
 returns c =
-    let t = c.before.before in
-    let s = begun t in
-    line_put s.requires.0 (row_of s) (columnOf s) (weight_of s) (weighed t)
+    let t = c in
+    let s = begun t.before.before in
+    line_put s.requires.0 (row_of s) (columnOf s) (weight_of s) (weighed t.before.before)
 
 pub put_weighted_edge_spec : {M : Type 1} → statement M
 put_weighted_edge_spec =

@@ -8,7 +8,7 @@ use Rattle.headers.proofs.ended.Tie as tie
 
 no-words-requires : tie.Need-no_words-requires
 no-words-requires c κs =
-    let start = c.before.before in
+    let start = c in
     within-at start.args.line.now _ _ c.in-After.is start.requires
 
 returns-2 : tie.Need-returns

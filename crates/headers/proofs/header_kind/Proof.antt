@@ -13,16 +13,16 @@ returns c =
 
 returns-2 : tie.Need-returns-then-is_header-2
 returns-2 c =
-    let at-if1 = c.before.before.before.before.before in
-    let at-is-header = at-if1.before in
+    let at-if1 = c in
+    let at-is-header = at-if1 in
     let args = at-is-header.args in
     kind-told args.field.now args.line.now false true (sym at-is-header.is_header.ensures ∙ at-if1.if-is_header.false)
     (sym c.is_header-2.ensures ∙ c.if-is_header-2.true)
 
 returns-3 : tie.Need-returns
 returns-3 c =
-    let at-if1 = c.before.before.before.before.before in
-    let at-is-header = at-if1.before in
+    let at-if1 = c in
+    let at-is-header = at-if1 in
     let args = at-is-header.args in
     kind-told args.field.now args.line.now false false (sym at-is-header.is_header.ensures ∙ at-if1.if-is_header.false)
     (sym c.is_header-2.ensures ∙ c.if-is_header-2.false)
@@ -31,14 +31,8 @@ pub header_kind_spec : {M : Type 1} → statement M
 header_kind_spec =
     tie.close
     (tie.spec
-    (λ c. search rules)
-    (λ c. search rules)
-    (λ c. search rules)
     (λ c κs. search rules)
     returns
-    (λ c. search rules)
-    (λ c. search rules)
-    (λ c. search rules)
     (λ c κs. search rules)
     returns-2
     returns-3)

@@ -14,22 +14,22 @@ graph c = graph_of c.args.s c.args.row.now c.args.column.now c.args.weight.now
 
 returns : tie.Need-returns-in-Refused
 returns c =
-    let start = c.before.before.before.before.before in
-    test_refused (graph start) start.args.index.now c.check_numbers.ensures c.in-Refused.is
+    let start = c in
+    test_refused (graph start.before.before.before.before.before) start.args.index.now c.check_numbers.ensures c.in-Refused.is
 
 check-places-requires : tie.Need-check_places-requires
 check-places-requires c κs =
-    let start = c.before.before.before.before.before in
+    let start = c in
     let n = length start.args.index.now in
     let says = c.check_numbers.ensures in
     let passed = c.in_default.is in
-    (sound (graph start) n says passed, size (graph start) n says passed)
+    (sound (graph start.before.before.before.before.before) n says passed, size (graph start.before.before.before.before.before) n says passed)
 
 returns-2 : tie.Need-returns
 returns-2 c =
-    let start = c.before.before.before.before.before.before in
+    let start = c in
     c.check_places.ensures
-    ∙ index_left (graph start) start.args.index.now c.check_numbers.ensures c.in_default.is
+    ∙ index_left (graph start.before.before.before.before.before.before) start.args.index.now c.check_numbers.ensures c.in_default.is
 
 pub check_index_spec : {M : Type 1} → statement M
 check_index_spec =

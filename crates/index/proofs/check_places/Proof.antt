@@ -13,27 +13,27 @@ graph c = graph_of c.args.s c.args.row.now c.args.column.now []
 
 returns : tie.Need-returns-then-is_index
 returns c =
-    let s = c.before.before.before.before.before in holding_passes (graph s) s.args.index.now (c.is_index.ensures c.if-is_index.true)
+    let s = c in holding_passes (graph s.before.before.before.before.before) s.args.index.now (c.is_index.ensures c.if-is_index.true)
 
 refused-item-requires : tie.Need-refused_item-requires
 refused-item-requires c κs =
-    let at-lowest-difference = c.before in
-    let s = at-lowest-difference.before.before.before.before.before.before in
-    place_among (graph s) s.args.index.now at-lowest-difference.lowest_difference.ensures s.requires.0 c.in-At.is
+    let at-lowest-difference = c in
+    let s = at-lowest-difference in
+    place_among (graph s.before.before.before.before.before.before.before) s.args.index.now at-lowest-difference.lowest_difference.ensures s.requires.0 c.in-At.is
 
 returns-2 : tie.Need-returns-in-At
 returns-2 c =
-    let at-k = c.before in
-    let at-lowest-difference = at-k.before in
-    let s = at-lowest-difference.before.before.before.before.before.before in
+    let at-k = c in
+    let at-lowest-difference = at-k in
+    let s = at-lowest-difference in
     c.refused_item.ensures
-    ∙ place_refused (graph s) s.args.index.now at-lowest-difference.lowest_difference.ensures at-k.in-At.is
+    ∙ place_refused (graph s.before.before.before.before.before.before.before.before) s.args.index.now at-lowest-difference.lowest_difference.ensures at-k.in-At.is
 
 returns-3 : tie.Need-returns
 returns-3 c =
-    let at-lowest-difference = c.before in
-    let s = at-lowest-difference.before.before.before.before.before.before in
-    none_refused (graph s) s.args.index.now at-lowest-difference.lowest_difference.ensures c.in_default.is
+    let at-lowest-difference = c in
+    let s = at-lowest-difference in
+    none_refused (graph s.before.before.before.before.before.before.before) s.args.index.now at-lowest-difference.lowest_difference.ensures c.in_default.is
 
 pub check_places_spec : {M : Type 1} → statement M
 check_places_spec =

@@ -21,12 +21,12 @@ abbrev graph : tie.Start invariant-loop decreases-loop → Graph
 graph c = graph_of c.args.s c.args.row.now c.args.column.now []
 
 loop-holds : tie.Need-loop-e-init invariant-loop decreases-loop
-loop-holds c = let s = c.before.before.before.before in (omega arith, standing_none (graph s) s.args.index.now s.requires.0)
+loop-holds c = let s = c in (omega arith, standing_none (graph s.before.before.before.before) s.args.index.now s.requires.0)
 
 edge-stands-requires : tie.Need-edge_stands-requires invariant-loop decreases-loop
 edge-stands-requires c κs =
-    let at-loop = c.before.before in
-    let start = at-loop.before.before.before.before.before in
+    let at-loop = c in
+    let start = at-loop in
     let pre = start.requires in
     ((pre.0, omega (arith, pre.0.row_long, c.loop-e-test.true)), (pre.1, at-loop.loop-e.invariant.1))
 
@@ -38,19 +38,19 @@ returns c = λ t. absurd (false≢true t)
 
 adds-up-requires : tie.Need-adds_up-requires invariant-loop decreases-loop
 adds-up-requires c κs =
-    let at-vertex-count = c.before.before in
-    let start = at-vertex-count.before.before.before.before in
+    let at-vertex-count = c in
+    let start = at-vertex-count in
     let pre = start.requires in
     let n = at-vertex-count.vertex_count-n.ensures in
     (omega (arith, n, pre.0.sizes.order), omega (arith, n, pre.1))
 
 returns-2 : tie.Need-returns invariant-loop decreases-loop
 returns-2 c =
-    let at-loop = c.before.before in
-    let at-vertex-count = at-loop.before in
-    let s = at-vertex-count.before.before.before.before in
+    let at-loop = c in
+    let at-vertex-count = at-loop in
+    let s = at-vertex-count in
     let inv = at-loop.loop-e.invariant in
-    λ t. standing_all (graph s) s.requires.0 inv.1 (omega (arith, inv.0, c.loop-e-test.false, s.requires.0.row_long)) at-vertex-count.vertex_count-n.ensures
+    λ t. standing_all (graph s.before.before.before.before.before.before.before) s.requires.0 inv.1 (omega (arith, inv.0, c.loop-e-test.false, s.requires.0.row_long)) at-vertex-count.vertex_count-n.ensures
     (c.adds_up.ensures t)
 
 pub is_index_spec : {M : Type 1} → statement M

@@ -9,7 +9,7 @@ use Rattle.jangoripu.proofs.jangoripu_price_general.Tie as tie
 
 returns : tie.Need-returns-in-Priced
 returns c =
-    let done = c.before.before.before in
+    let done = c in
     let given = done.shape_given-s.ensures in
     let left = done.price_general.ensures in
     rw (← given.0, ← given.1, ← given.2, ← given.3)
@@ -18,7 +18,7 @@ returns c =
 returns-2 : tie.Need-returns-in-Refused
 returns-2 c =
     let r = c.in-Refused in
-    let done = c.before.before.before.before.before in
+    let done = c in
     let given = done.shape_given-s.ensures in
     let left = done.price_general.ensures in
     let told = c.tell.ensures in

@@ -9,7 +9,7 @@ use Rattle.jangoripu.proofs.jangoripu_solve.Tie as tie
 
 returns : tie.Need-returns-in-Solved
 returns c =
-    let at-solve = c.before.before.before.before.before.before in
+    let at-solve = c in
     let done = at-solve.solve.ensures in
     let given = at-solve.shape_given-s.ensures in
     rw (← given.0, ← given.1, ← given.2, ← given.3) (graph_solved (yields tt) (sym (ap solve_says c.in-Solved.is) ∙ done.0) done.1)

@@ -6,7 +6,7 @@ use Rattle.jangoripu.proofs.jangoripu_write_assignment.Tie as tie
 
 returns : tie.Need-returns
 returns c =
-    let at-write-assignment = c.before.before.before.before in
+    let at-write-assignment = c in
     let shape-given = at-write-assignment.shape_given-s in
     rw (← shape-given.ensures.0, ← shape-given.ensures.1, ← shape-given.ensures.2, ← shape-given.ensures.3) (text_written
     at-write-assignment.write_assignment-told.result at-write-assignment.write_assignment-told.ensures.0

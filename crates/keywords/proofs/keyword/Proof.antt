@@ -14,37 +14,37 @@ returns c =
 
 skip-blanks-requires : tie.Need-skip_blanks-start-requires
 skip-blanks-requires c κs =
-    let start = c.before.before.before in
+    let start = c in
     within-at start.args.line.now _ _ c.in-After.is start.requires
 
 returns-2 : tie.Need-returns-then-w-eq0
 returns-2 c =
     let skip-blanks = c.skip_blanks-start in
-    let at_from = c.before.before.before in
+    let at_from = c in
     let args = at_from.args in
     taken-missing args.line.now args.k.now _ _ at_from.in-After.is _
     (word_is args.line.now _ skip-blanks.ensures.0 c.word-w.ensures.0) c.if-w-eq0.true
 
 returns-3 : tie.Need-returns-then-not-same_folded
 returns-3 c =
-    let at_word = c.before.before.before in
-    let at-skip-blanks = at_word.before in
-    let at_from = at-skip-blanks.before in
+    let at_word = c in
+    let at-skip-blanks = at_word in
+    let at_from = at-skip-blanks in
     let args = at_from.args in
     taken-other args.line.now args.k.now _ _ at_from.in-After.is _
     (word_is args.line.now _ at-skip-blanks.skip_blanks-start.ensures.0 at_word.word-w.ensures.0)
-    (sym c.same_folded.ensures ∙ not-true _ c.if-not-same_folded.true)
+    (sym c.same_folded.ensures ∙ c.if-not-same_folded.true)
 
 returns-4 : tie.Need-returns
 returns-4 c =
     let if1 = c.if-w-eq0 in
-    let at_word = c.before.before.before in
-    let at-skip-blanks = at_word.before in
-    let at_from = at-skip-blanks.before in
+    let at_word = c in
+    let at-skip-blanks = at_word in
+    let at_from = at-skip-blanks in
     let args = at_from.args in
     taken args.line.now args.k.now _ _ at_from.in-After.is _
     (word_is args.line.now _ at-skip-blanks.skip_blanks-start.ensures.0 at_word.word-w.ensures.0) if1.false
-    (sym c.same_folded.ensures ∙ not-false _ c.if-not-same_folded.false) _
+    (sym c.same_folded.ensures ∙ c.if-not-same_folded.false) _
     (word_past args.line.now _ at-skip-blanks.skip_blanks-start.ensures.0 at_word.word-w.ensures.0) at_word.word-w.ensures.1
 
 pub keyword_spec : {M : Type 1} → statement M

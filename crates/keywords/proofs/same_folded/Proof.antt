@@ -28,16 +28,16 @@ loop-holds c =
 returns-2 : tie.Need-returns-then-to_lower-k invariant-loop decreases-loop
 returns-2 c =
     let to-lower = c.to_lower in
-    let at-loop-test = c.before.before.before.before in
-    let at-loop = at-loop-test.before in
+    let at-loop-test = c in
+    let at-loop = at-loop-test in
     let args = at-loop.args in
     sym (folded_stop args.w.now args.k.now _ at-loop.loop-i.invariant at-loop-test.loop-i-test.true _ to-lower.ensures c.if-to_lower-k.true)
 
 loop-again : tie.Need-loop-i-preserved invariant-loop decreases-loop
 loop-again c =
     let to-lower = c.to_lower in
-    let at-loop-test = c.before.before.before.before in
-    let at-loop = at-loop-test.before in
+    let at-loop-test = c in
+    let at-loop = at-loop-test in
     let args = at-loop.args in
     folded_more args.w.now args.k.now _ at-loop.loop-i.invariant at-loop-test.loop-i-test.true _ to-lower.ensures c.if-to_lower-k.false
 

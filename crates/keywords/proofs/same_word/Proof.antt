@@ -21,13 +21,13 @@ loop-holds c = (search rules, c.if-w-k.false, refl)
 
 returns-2 : tie.Need-returns-then-w-i invariant-loop decreases-loop
 returns-2 c =
-    let at-loop-test = c.before.before.before in
+    let at-loop-test = c in
     let inv = at-loop-test.loop-i.invariant in
     sym (alike_stop _ _ _ inv at-loop-test.loop-i-test.true c.if-w-i.true)
 
 loop-again : tie.Need-loop-i-preserved invariant-loop decreases-loop
 loop-again c =
-    let at-loop-test = c.before.before.before in
+    let at-loop-test = c in
     let inv = at-loop-test.loop-i.invariant in
     alike_more _ _ _ inv at-loop-test.loop-i-test.true c.if-w-i.false
 

@@ -20,16 +20,16 @@ last s = let a = s.args in kind_test (graph_of a.s a.row.now a.column.now a.weig
 
 returns : tie.Need-returns-in-Refused
 returns c =
-    let made = c.before in
-    let s = made.before.before.before in
-    part-refuses (first s) (last s) (yields tt) made.check_bounded.ensures c.in-Refused.is
+    let made = c in
+    let s = made in
+    part-refuses (first s.before.before.before.before) (last s.before.before.before.before) (yields tt) made.check_bounded.ensures c.in-Refused.is
 
 returns-2 : tie.Need-returns
 returns-2 c =
-    let passed = c.before.before in
-    let made = passed.before in
-    let s = made.before.before.before in
-    part-passes (first s) (last s) (yields tt) made.check_bounded.ensures passed.in_default.is
+    let passed = c in
+    let made = passed in
+    let s = made in
+    part-passes (first s.before.before.before.before.before.before) (last s.before.before.before.before.before.before) (yields tt) made.check_bounded.ensures passed.in_default.is
     (c.check_once-last.ensures ∙ ap (λ (b : Bool). passing (once NotBipartite b ∷ []) (yields tt)) c.is_bipartite.ensures)
 
 pub check_bipartite_spec : {M : Type 1} → statement M

@@ -27,34 +27,34 @@ told c =
 
 returns : tie.Need-returns-in-Refused
 returns c =
-    let tests = c.before in
-    let s = begun tests.before in
-    numbers_refused (graph s) s.args.bound.now s.args.others (told tests.before) tests.check_lent.ensures c.in-Refused.is
+    let tests = c in
+    let s = begun tests.before.before in
+    numbers_refused (graph s) s.args.bound.now s.args.others (told tests.before.before) tests.check_lent.ensures c.in-Refused.is
 
 refused-item-requires : tie.Need-refused_item-requires
 refused-item-requires c κs =
-    let found = c.before in
-    let tests = found.before.before in
-    let s = begun tests.before in
-    bound_among (graph s) s.args.bound.now s.args.others (told tests.before) tests.check_lent.ensures found.in_default.is
+    let found = c in
+    let tests = found in
+    let s = begun tests.before.before.before.before in
+    bound_among (graph s) s.args.bound.now s.args.others (told tests.before.before.before.before) tests.check_lent.ensures found.in_default.is
     found.lowest_bound.ensures c.in-At.is
 
 returns-2 : tie.Need-returns-in-At
 returns-2 c =
-    let found = c.before.before in
-    let tests = found.before.before in
-    let s = begun tests.before in
+    let found = c in
+    let tests = found in
+    let s = begun tests.before.before.before.before.before in
     c.refused_item.ensures
-    ∙ bound_refused (graph s) s.args.bound.now s.args.others (told tests.before) tests.check_lent.ensures found.in_default.is
+    ∙ bound_refused (graph s) s.args.bound.now s.args.others (told tests.before.before.before.before.before) tests.check_lent.ensures found.in_default.is
     found.lowest_bound.ensures c.in-At.is
 
 returns-3 : tie.Need-returns
 returns-3 c =
     let None-found = c in
-    let found = None-found.before in
-    let tests = found.before.before in
-    let s = begun tests.before in
-    all_passed (graph s) s.args.bound.now s.args.others (told tests.before) tests.check_lent.ensures found.in_default.is
+    let found = None-found in
+    let tests = found in
+    let s = begun tests.before.before.before.before in
+    all_passed (graph s) s.args.bound.now s.args.others (told tests.before.before.before.before) tests.check_lent.ensures found.in_default.is
     found.lowest_bound.ensures None-found.in_default-lowest_bound.is
 
 pub check_bounded_spec : {M : Type 1} → statement M

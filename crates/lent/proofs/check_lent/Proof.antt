@@ -25,17 +25,17 @@ tested g others i j e = sym (j ∙ ap (λ (x : Bool). x && others) i) ∙ e
 check-graph-requires : tie.Need-check_graph-requires
 check-graph-requires c κs =
     let lengths-match = c.lengths_match in
-    let start = c.before.before.before.before.before in
-    let g = graph start in
+    let start = c in
+    let g = graph start.before.before.before.before.before in
     let o = start.args.others in
     lengths_hold g (both (graph_lengths g) o (tested g o lengths-match.ensures c.both.ensures c.if-both.true)).0
 
 returns : tie.Need-returns-then-both
 returns c =
     let the-both = c.both in
-    let at-lengths-match = c.before.before.before in
-    let start = at-lengths-match.before.before.before in
-    let g = graph start in
+    let at-lengths-match = c in
+    let start = at-lengths-match in
+    let g = graph start.before.before.before.before.before.before in
     let o = start.args.others in
     c.check_graph.ensures
     ∙ sym
@@ -45,9 +45,9 @@ returns c =
 returns-2 : tie.Need-returns-else-both
 returns-2 c =
     let the-both = c.both in
-    let at-lengths-match = c.before.before.before in
-    let start = at-lengths-match.before.before.before in
-    let g = graph start in
+    let at-lengths-match = c in
+    let start = at-lengths-match in
+    let g = graph start.before.before.before.before.before.before in
     let o = start.args.others in
     let t = tested g o at-lengths-match.lengths_match.ensures the-both.ensures c.if-both.false in
     ap check_says c.refused.ensures ∙ sym (once-refuses LentLength (graph_lengths g && o) (graph_tests g) (yields tt) t)

@@ -33,7 +33,7 @@ add-t11 c =
 returns : tie.Need-returns-in-Done invariant-loop decreases-loop
 returns c =
     let next-line = c.next_line in
-    let at-loop = c.before.before in
+    let at-loop = c in
     let args = at-loop.args in
     record {
       says = search_ends (skips args.what) args.s.now _ _ at-loop.loop-start.invariant
@@ -43,22 +43,22 @@ returns c =
 
 sub-line : tie.Need-slice_bounds-line-count invariant-loop decreases-loop
 sub-line c =
-    let at-next-line = c.before in
-    let at-loop = at-next-line.before in
+    let at-next-line = c in
+    let at-loop = at-next-line in
     let args = at-loop.args in
     (lined args.s.now at-loop.loop-start.c _ at-next-line.next_line.ensures _ _ _ c.in-Part.is).forward
 
 part-line-start : tie.Need-slice_bounds-line-start invariant-loop decreases-loop
 part-line-start c =
-    let at-next-line = c.before in
-    let at-loop = at-next-line.before in
+    let at-next-line = c in
+    let at-loop = at-next-line in
     let args = at-loop.args in
     (lined args.s.now at-loop.loop-start.c _ at-next-line.next_line.ensures _ _ _ c.in-Part.is).forward
 
 part-line-end : tie.Need-slice_bounds-line-end invariant-loop decreases-loop
 part-line-end c =
-    let at-next-line = c.before in
-    let at-loop = at-next-line.before in
+    let at-next-line = c in
+    let at-loop = at-next-line in
     let args = at-loop.args in
     (lined args.s.now at-loop.loop-start.c _ at-next-line.next_line.ensures _ _ _ c.in-Part.is).inside
 
@@ -69,9 +69,9 @@ add-t17 c =
 
 returns-2 : tie.Need-returns-then-line-gt-LONGEST_LINE invariant-loop decreases-loop
 returns-2 c =
-    let at-start = c.before.before in
-    let at-next-line = at-start.before in
-    let at-loop = at-next-line.before in
+    let at-start = c in
+    let at-next-line = at-start in
+    let at-loop = at-next-line in
     let args = at-loop.args in
     record {
       says = search_long (skips args.what) args.s.now _ _ at-loop.loop-start.invariant _ _ _
@@ -82,23 +82,23 @@ returns-2 c =
 returns-3 : tie.Need-returns-then-not-is_skipped invariant-loop decreases-loop
 returns-3 c =
     let if1 = c.if-line-gt-LONGEST_LINE in
-    let at-start = c.before.before.before.before in
-    let at-next-line = at-start.before in
-    let at-loop = at-next-line.before in
+    let at-start = c in
+    let at-next-line = at-start in
+    let at-loop = at-next-line in
     let args = at-loop.args in
     record {
       says = search_finds (skips args.what) args.s.now _ _ at-loop.loop-start.invariant _ _ _
           (lined args.s.now at-loop.loop-start.c _ at-next-line.next_line.ensures _ _ _ at-start.in-Part.is) if1.false
-          (sym c.is_skipped.ensures ∙ not-true _ c.if-not-is_skipped.true);
+          (sym c.is_skipped.ensures ∙ c.if-not-is_skipped.true);
       inside = search_inside (skips args.what) args.s.now _ _ at-loop.loop-start.invariant _ _ _
           (lined args.s.now at-loop.loop-start.c _ at-next-line.next_line.ensures _ _ _ at-start.in-Part.is);
     }
 
 loop-less : tie.Need-loop-start-smaller invariant-loop decreases-loop
 loop-less c =
-    let at-start = c.before.before.before.before in
-    let at-next-line = at-start.before in
-    let at-loop = at-next-line.before in
+    let at-start = c in
+    let at-next-line = at-start in
+    let at-loop = at-next-line in
     let args = at-loop.args in
     search_falls (skips args.what) args.s.now _ _ at-loop.loop-start.invariant _ _ _
     (lined args.s.now at-loop.loop-start.c _ at-next-line.next_line.ensures _ _ _ at-start.in-Part.is)
@@ -106,13 +106,13 @@ loop-less c =
 loop-again : tie.Need-loop-start-preserved invariant-loop decreases-loop
 loop-again c =
     let if1 = c.if-line-gt-LONGEST_LINE in
-    let at-start = c.before.before.before.before in
-    let at-next-line = at-start.before in
-    let at-loop = at-next-line.before in
+    let at-start = c in
+    let at-next-line = at-start in
+    let at-loop = at-next-line in
     let args = at-loop.args in
     search_more (skips args.what) args.s.now _ _ at-loop.loop-start.invariant _ _ _
     (lined args.s.now at-loop.loop-start.c _ at-next-line.next_line.ensures _ _ _ at-start.in-Part.is) if1.false
-    (sym c.is_skipped.ensures ∙ not-false _ c.if-not-is_skipped.false)
+    (sym c.is_skipped.ensures ∙ c.if-not-is_skipped.false)
 
 pub find_line_spec : {M : Type 1} → statement M
 find_line_spec =

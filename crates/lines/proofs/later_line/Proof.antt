@@ -12,13 +12,13 @@ returns c =
 
 returns-2 : tie.Need-returns-then-more-2
 returns-2 c =
-    let at_place = c.before.before in
+    let at_place = c in
     let find-line = at_place.find_line in
     later_missing find-line.ensures at_place.in-Ended.is c.if-more-2.true c.late-then-more-2.ensures
 
 returns-3 : tie.Need-returns-else-more
 returns-3 c =
-    let at-start = c.before.before in
+    let at-start = c in
     let find-line = at-start.find_line in
     later_surplus find-line.ensures at-start.in-At.is c.if-more.false c.late.ensures
 

@@ -19,13 +19,13 @@ loop-holds c = kept_none
 
 loop-again : tie.Need-loop-e-preserved invariant-loop decreases-loop
 loop-again c =
-    let at-loop-test = c.before.before.before.before in
+    let at-loop-test = c in
     let inv = at-loop-test.loop-e.invariant in
     kept_more inv at-loop-test.loop-e-test.true (sym c.ends_in_range.ensures ∙ c.if-ends_in_range.true)
 
 returns : tie.Need-returns-else-ends_in_range invariant-loop decreases-loop
 returns c =
-    let at-loop-test = c.before.before.before.before in
+    let at-loop-test = c in
     let inv = at-loop-test.loop-e.invariant in
     kept_broken inv at-loop-test.loop-e-test.true (sym c.ends_in_range.ensures ∙ c.if-ends_in_range.false)
 

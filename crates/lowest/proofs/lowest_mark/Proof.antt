@@ -20,14 +20,14 @@ loop-holds c = kept_none
 loop-again : tie.Need-loop-e-preserved invariant-loop decreases-loop
 loop-again c =
     let loop-test = c.loop-e-test in
-    let at-loop = c.before.before.before in
+    let at-loop = c in
     let args = at-loop.args in
     kept_more at-loop.loop-e.invariant loop-test.true (le-leb (get_or args.chosen.now at-loop.loop-e.e 0) 1 (omega arith))
 
 returns : tie.Need-returns-else-chosen-e-le1 invariant-loop decreases-loop
 returns c =
     let loop-test = c.loop-e-test in
-    let at-loop = c.before.before.before in
+    let at-loop = c in
     let args = at-loop.args in
     kept_broken at-loop.loop-e.invariant loop-test.true (lt-leb (get_or args.chosen.now at-loop.loop-e.e 0) 1 (omega arith))
 

@@ -30,13 +30,13 @@ searched s =
     (back w32 s.args.high s.ranges.high.sfits)
 
 test : (c : tie.After-in_range invariant-loop decreases-loop) →
-    let at-loop = c.before.before.before in
-    let s = at-loop.before in
+    let at-loop = c in
+    let s = at-loop in
     c.in_range.result
     ≡ between (to_z w32 (of_z w32 s.args.low)) (to_z w32 (of_z w32 s.args.high)) (get_or s.args.values.now at-loop.loop-k.k (pos 0))
 test c =
-    let at-loop = c.before.before.before in
-    let s = at-loop.before in
+    let at-loop = c in
+    let s = at-loop in
     c.in_range.ensures
     ∙ ap (between (to_z w32 (of_z w32 s.args.low)) (to_z w32 (of_z w32 s.args.high)))
     (back w32 (get_or s.args.values.now at-loop.loop-k.k (pos 0)) c.in_range-arg-1.given)
@@ -46,21 +46,21 @@ loop-holds c = kept_none
 
 loop-again : tie.Need-loop-k-preserved invariant-loop decreases-loop
 loop-again c =
-    let at-loop-test = c.before.before.before in
+    let at-loop-test = c in
     let inv = at-loop-test.loop-k.invariant in
     kept_more inv at-loop-test.loop-k-test.true (sym (test c.before) ∙ c.if-in_range.true)
 
 returns : tie.Need-returns-else-in_range invariant-loop decreases-loop
 returns c =
-    let at-loop-test = c.before.before.before in
-    let at-loop = at-loop-test.before in
-    let start = at-loop.before in
-    kept_broken at-loop.loop-k.invariant at-loop-test.loop-k-test.true (sym (test c.before) ∙ c.if-in_range.false) ∙ searched start
+    let at-loop-test = c in
+    let at-loop = at-loop-test in
+    let start = at-loop in
+    kept_broken at-loop.loop-k.invariant at-loop-test.loop-k-test.true (sym (test c.before) ∙ c.if-in_range.false) ∙ searched start.before.before.before.before.before
 
 returns-2 : tie.Need-returns invariant-loop decreases-loop
 returns-2 c =
-    let start = c.before.before in
-    kept_all c.loop-k.invariant c.loop-k-test.false ∙ searched start
+    let start = c in
+    kept_all c.loop-k.invariant c.loop-k-test.false ∙ searched start.before.before
 
 pub lowest_outside_spec : {M : Type 1} → statement M
 lowest_outside_spec =

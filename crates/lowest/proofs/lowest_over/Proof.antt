@@ -20,14 +20,14 @@ decreases-loop bound degree v₀ v = length bound - v
 
 -- What the comparison answers.
 answer : (c : tie.After-at_most invariant-loop decreases-loop) →
-    let at-loop = c.before.before.before.before.before in
+    let at-loop = c in
     let args = at-loop.args in
-    c.at_most.result ≡ le_z (pos (get_or args.t1 at-loop.loop-v.v 0)) (get_or args.bound.now at-loop.loop-v.v (pos 0))
+    c.at_most.result ≡ le_z (pos (get_or args.degree at-loop.loop-v.v 0)) (get_or args.bound.now at-loop.loop-v.v (pos 0))
 answer c =
     let widen = c.widen in
     let widen-arg = c.widen-arg-1 in
-    let at-whole = c.before.before.before in
-    let at-loop = at-whole.before.before in
+    let at-whole = c in
+    let at-loop = at-whole in
     let args = at-loop.args in
     c.at_most.ensures
     ∙ ap₂ le_z (back w64 at-whole.whole.result at-whole.whole.type_inv ∙ at-whole.whole.ensures.0)
@@ -38,13 +38,13 @@ loop-holds c = kept_none
 
 loop-again : tie.Need-loop-v-preserved invariant-loop decreases-loop
 loop-again c =
-    let at-loop-test = c.before.before.before.before.before in
+    let at-loop-test = c in
     let inv = at-loop-test.loop-v.invariant in
     kept_more inv at-loop-test.loop-v-test.true (sym (answer c.before) ∙ c.if-at_most.true)
 
 returns : tie.Need-returns-else-at_most invariant-loop decreases-loop
 returns c =
-    let at-loop-test = c.before.before.before.before.before in
+    let at-loop-test = c in
     let inv = at-loop-test.loop-v.invariant in
     kept_broken inv at-loop-test.loop-v-test.true (sym (answer c.before) ∙ c.if-at_most.false)
 

@@ -20,21 +20,21 @@ in_range prices k = price_in_range (get_or prices k (pos 0))
 
 returns : tie.Need-returns-in-At
 returns c =
-    let at-lowest-outside = c.before in
+    let at-lowest-outside = c in
     let args = at-lowest-outside.args in
-    in_first price_in_range args.vertex-price.now args.edge-price.now args.set-price.now
-    (says (in_range args.vertex-price.now) {n = length args.vertex-price.now} at-lowest-outside.lowest_outside.ensures
+    in_first price_in_range args.vertex_price.now args.edge_price.now args.set_price.now
+    (says (in_range args.vertex_price.now) {n = length args.vertex_price.now} at-lowest-outside.lowest_outside.ensures
     c.in-At.is refl)
 
 add-t10 : tie.Need-overflow_add-result
 add-t10 c =
     let k2 = c.in-At-lowest_outside in
-    let at-lowest-outside2 = c.before in
-    let start = at-lowest-outside2.before.before.before in
+    let at-lowest-outside2 = c in
+    let start = at-lowest-outside2 in
     omega (
       arith,
-      (lowest-some (length start.args.edge-price.now) (in_range start.args.edge-price.now) k2.k
-          (says (in_range start.args.edge-price.now) {n = length start.args.edge-price.now} at-lowest-outside2.lowest_outside-2.ensures
+      (lowest-some (length start.args.edge_price.now) (in_range start.args.edge_price.now) k2.k
+          (says (in_range start.args.edge_price.now) {n = length start.args.edge_price.now} at-lowest-outside2.lowest_outside-2.ensures
           k2.is refl)).among,
       start.well_formed.0,
       start.well_formed.1.0,
@@ -43,25 +43,25 @@ add-t10 c =
 
 returns-2 : tie.Need-returns-in-At-lowest_outside
 returns-2 c =
-    let at-lowest-outside2 = c.before in
-    let at-enum-told = at-lowest-outside2.before in
-    let at-lowest-outside = at-enum-told.before in
+    let at-lowest-outside2 = c in
+    let at-enum-told = at-lowest-outside2 in
+    let at-lowest-outside = at-enum-told in
     let args = at-lowest-outside.args in
-    in_second price_in_range args.vertex-price.now args.edge-price.now args.set-price.now
-    (says (in_range args.vertex-price.now) {n = length args.vertex-price.now} at-lowest-outside.lowest_outside.ensures
+    in_second price_in_range args.vertex_price.now args.edge_price.now args.set_price.now
+    (says (in_range args.vertex_price.now) {n = length args.vertex_price.now} at-lowest-outside.lowest_outside.ensures
     at-enum-told.in_default.is refl)
-    (says (in_range args.edge-price.now) {n = length args.edge-price.now} at-lowest-outside2.lowest_outside-2.ensures
+    (says (in_range args.edge_price.now) {n = length args.edge_price.now} at-lowest-outside2.lowest_outside-2.ensures
     c.in-At-lowest_outside.is refl)
 
 add-t15 : tie.Need-overflow_add-result-in-At-lowest_outside-2-2
 add-t15 c =
     let k3 = c.in-At-lowest_outside-2 in
-    let at-lowest-outside3 = c.before in
-    let start = at-lowest-outside3.before.before.before.before.before in
+    let at-lowest-outside3 = c in
+    let start = at-lowest-outside3 in
     omega (
       arith,
-      (lowest-some (length start.args.set-price.now) (in_range start.args.set-price.now) k3.k
-          (says (in_range start.args.set-price.now) {n = length start.args.set-price.now} at-lowest-outside3.lowest_outside-3.ensures
+      (lowest-some (length start.args.set_price.now) (in_range start.args.set_price.now) k3.k
+          (says (in_range start.args.set_price.now) {n = length start.args.set_price.now} at-lowest-outside3.lowest_outside-3.ensures
           k3.is refl)).among,
       start.well_formed.0,
       start.well_formed.1.0,
@@ -70,34 +70,34 @@ add-t15 c =
 
 returns-3 : tie.Need-returns-in-At-lowest_outside-2
 returns-3 c =
-    let at-lowest-outside3 = c.before in
-    let at-enum-told2 = at-lowest-outside3.before in
-    let at-lowest-outside2 = at-enum-told2.before in
-    let at-enum-told = at-lowest-outside2.before in
-    let at-lowest-outside = at-enum-told.before in
+    let at-lowest-outside3 = c in
+    let at-enum-told2 = at-lowest-outside3 in
+    let at-lowest-outside2 = at-enum-told2 in
+    let at-enum-told = at-lowest-outside2 in
+    let at-lowest-outside = at-enum-told in
     let args = at-lowest-outside.args in
-    in_third price_in_range args.vertex-price.now args.edge-price.now args.set-price.now
-    (says (in_range args.vertex-price.now) {n = length args.vertex-price.now} at-lowest-outside.lowest_outside.ensures
+    in_third price_in_range args.vertex_price.now args.edge_price.now args.set_price.now
+    (says (in_range args.vertex_price.now) {n = length args.vertex_price.now} at-lowest-outside.lowest_outside.ensures
     at-enum-told.in_default.is refl)
-    (says (in_range args.edge-price.now) {n = length args.edge-price.now} at-lowest-outside2.lowest_outside-2.ensures
+    (says (in_range args.edge_price.now) {n = length args.edge_price.now} at-lowest-outside2.lowest_outside-2.ensures
     at-enum-told2.in_default-lowest_outside.is refl)
-    (says (in_range args.set-price.now) {n = length args.set-price.now} at-lowest-outside3.lowest_outside-3.ensures
+    (says (in_range args.set_price.now) {n = length args.set_price.now} at-lowest-outside3.lowest_outside-3.ensures
     c.in-At-lowest_outside-2.is refl)
 
 returns-4 : tie.Need-returns
 returns-4 c =
     let lowest-outside3 = c.lowest_outside-3 in
-    let at-enum-told2 = c.before.before in
-    let at-lowest-outside2 = at-enum-told2.before in
-    let at-enum-told = at-lowest-outside2.before in
-    let at-lowest-outside = at-enum-told.before in
+    let at-enum-told2 = c in
+    let at-lowest-outside2 = at-enum-told2 in
+    let at-enum-told = at-lowest-outside2 in
+    let at-lowest-outside = at-enum-told in
     let args = at-lowest-outside.args in
-    in_none price_in_range args.vertex-price.now args.edge-price.now args.set-price.now
-    (says (in_range args.vertex-price.now) {n = length args.vertex-price.now} at-lowest-outside.lowest_outside.ensures
+    in_none price_in_range args.vertex_price.now args.edge_price.now args.set_price.now
+    (says (in_range args.vertex_price.now) {n = length args.vertex_price.now} at-lowest-outside.lowest_outside.ensures
     at-enum-told.in_default.is refl)
-    (says (in_range args.edge-price.now) {n = length args.edge-price.now} at-lowest-outside2.lowest_outside-2.ensures
+    (says (in_range args.edge_price.now) {n = length args.edge_price.now} at-lowest-outside2.lowest_outside-2.ensures
     at-enum-told2.in_default-lowest_outside.is refl)
-    (says (in_range args.set-price.now) {n = length args.set-price.now} lowest-outside3.ensures c.in_default-lowest_outside-2.is refl)
+    (says (in_range args.set_price.now) {n = length args.set_price.now} lowest-outside3.ensures c.in_default-lowest_outside-2.is refl)
 
 pub lowest_price_spec : {M : Type 1} → statement M
 lowest_price_spec =

@@ -58,60 +58,60 @@ mark-say c is =
 
 returns : tie.Need-returns-in-Refused
 returns c =
-    let at-check-lent = c.before in
-    let s = at-check-lent.before.before.before.before in
-    part-refuses (graphs s) (bounds s ∷ marks s ∷ []) (yields tt) at-check-lent.check_lent-graph.ensures c.in-Refused.is
+    let at-check-lent = c in
+    let s = at-check-lent in
+    part-refuses (graphs s.before.before.before.before.before) (bounds s.before.before.before.before.before ∷ marks s.before.before.before.before.before ∷ []) (yields tt) at-check-lent.check_lent-graph.ensures c.in-Refused.is
 
 refused-item-requires : tie.Need-refused_item-requires
 refused-item-requires c κs =
-    let at-lowest-bound = c.before in
-    let at-enum-told = at-lowest-bound.before in
-    let s = at-enum-told.before.before.before.before.before in
-    place_fits (bounds s).items (bounds s).keeps (bound-say at-lowest-bound c.in-At.is)
-    (omega (arith, (passed at-enum-told).0.sound.sizes.order))
+    let at-lowest-bound = c in
+    let at-enum-told = at-lowest-bound in
+    let s = at-enum-told in
+    place_fits (bounds s.before.before.before.before.before.before.before).items (bounds s.before.before.before.before.before.before.before).keeps (bound-say at-lowest-bound.before c.in-At.is)
+    (omega (arith, (passed at-enum-told.before.before).0.sound.sizes.order))
 
 returns-2 : tie.Need-returns-in-At
 returns-2 c =
     let v = c.in-At in
-    let at-lowest-bound = c.before.before in
-    let at-enum-told = at-lowest-bound.before in
-    let at-check-lent = at-enum-told.before in
-    let s = at-check-lent.before.before.before.before in
+    let at-lowest-bound = c in
+    let at-enum-told = at-lowest-bound in
+    let at-check-lent = at-enum-told in
+    let s = at-check-lent in
     c.refused_item.ensures
-    ∙ part-passes (graphs s) (bounds s ∷ marks s ∷ []) (yields tt) at-check-lent.check_lent-graph.ensures at-enum-told.in_default.is
-    (first_refuses (bounds s) (marks s) (yields tt) (bound-say at-lowest-bound v.is))
+    ∙ part-passes (graphs s.before.before.before.before.before.before.before.before) (bounds s.before.before.before.before.before.before.before.before ∷ marks s.before.before.before.before.before.before.before.before ∷ []) (yields tt) at-check-lent.check_lent-graph.ensures at-enum-told.in_default.is
+    (first_refuses (bounds s.before.before.before.before.before.before.before.before) (marks s.before.before.before.before.before.before.before.before) (yields tt) (bound-say at-lowest-bound.before.before v.is))
 
 refused-item-requires-2 : tie.Need-refused_item-requires-in-At-lowest_mark
 refused-item-requires-2 c κs =
-    let at-lowest-mark = c.before in
-    let at-enum-told = at-lowest-mark.before.before.before in
-    let s = at-enum-told.before.before.before.before.before in
-    place_fits (marks s).items (marks s).keeps (mark-say at-lowest-mark c.in-At-lowest_mark.is) (omega (arith, (passed at-enum-told).0.sound.sizes.few))
+    let at-lowest-mark = c in
+    let at-enum-told = at-lowest-mark in
+    let s = at-enum-told in
+    place_fits (marks s.before.before.before.before.before.before.before.before.before).items (marks s.before.before.before.before.before.before.before.before.before).keeps (mark-say at-lowest-mark.before c.in-At-lowest_mark.is) (omega (arith, (passed at-enum-told.before.before.before.before).0.sound.sizes.few))
 
 returns-3 : tie.Need-returns-in-At-lowest_mark
 returns-3 c =
     let e = c.in-At-lowest_mark in
-    let at-lowest-mark = c.before.before in
-    let at-enum-told2 = at-lowest-mark.before in
-    let at-lowest-bound = at-enum-told2.before in
-    let at-enum-told = at-lowest-bound.before in
-    let at-check-lent = at-enum-told.before in
-    let s = at-check-lent.before.before.before.before in
+    let at-lowest-mark = c in
+    let at-enum-told2 = at-lowest-mark in
+    let at-lowest-bound = at-enum-told2 in
+    let at-enum-told = at-lowest-bound in
+    let at-check-lent = at-enum-told in
+    let s = at-check-lent in
     c.refused_item-in-At-lowest_mark.ensures
-    ∙ part-passes (graphs s) (bounds s ∷ marks s ∷ []) (yields tt) at-check-lent.check_lent-graph.ensures at-enum-told.in_default.is
-    (second_refuses (bounds s) (marks s) (yields tt) (bound-say at-lowest-bound at-enum-told2.in_default-lowest_bound.is) (mark-say at-lowest-mark e.is))
+    ∙ part-passes (graphs s.before.before.before.before.before.before.before.before.before.before) (bounds s.before.before.before.before.before.before.before.before.before.before ∷ marks s.before.before.before.before.before.before.before.before.before.before ∷ []) (yields tt) at-check-lent.check_lent-graph.ensures at-enum-told.in_default.is
+    (second_refuses (bounds s.before.before.before.before.before.before.before.before.before.before) (marks s.before.before.before.before.before.before.before.before.before.before) (yields tt) (bound-say at-lowest-bound.before.before.before.before at-enum-told2.in_default-lowest_bound.is) (mark-say at-lowest-mark.before.before e.is))
 
 returns-4 : tie.Need-returns
 returns-4 c =
-    let at-lowest-mark = c.before in
-    let at-enum-told2 = at-lowest-mark.before in
-    let at-lowest-bound = at-enum-told2.before in
-    let at-enum-told = at-lowest-bound.before in
-    let at-check-lent = at-enum-told.before in
-    let s = at-check-lent.before.before.before.before in
-    part-passes (graphs s) (bounds s ∷ marks s ∷ []) (yields tt) at-check-lent.check_lent-graph.ensures at-enum-told.in_default.is
-    (none_refuses (bounds s) (marks s) (yields tt) (bound-say at-lowest-bound at-enum-told2.in_default-lowest_bound.is)
-    (mark-say at-lowest-mark c.in_default-lowest_mark.is))
+    let at-lowest-mark = c in
+    let at-enum-told2 = at-lowest-mark in
+    let at-lowest-bound = at-enum-told2 in
+    let at-enum-told = at-lowest-bound in
+    let at-check-lent = at-enum-told in
+    let s = at-check-lent in
+    part-passes (graphs s.before.before.before.before.before.before.before.before.before) (bounds s.before.before.before.before.before.before.before.before.before ∷ marks s.before.before.before.before.before.before.before.before.before ∷ []) (yields tt) at-check-lent.check_lent-graph.ensures at-enum-told.in_default.is
+    (none_refuses (bounds s.before.before.before.before.before.before.before.before.before) (marks s.before.before.before.before.before.before.before.before.before) (yields tt) (bound-say at-lowest-bound.before.before.before at-enum-told2.in_default-lowest_bound.is)
+    (mark-say at-lowest-mark.before c.in_default-lowest_mark.is))
 
 pub check_subgraph_spec : {M : Type 1} → statement M
 check_subgraph_spec =

@@ -27,8 +27,8 @@ graph s = graph_of s.args.s s.args.row.now s.args.column.now s.args.weight.now
 
 abbrev prices : tie.Start → Prices
 prices s =
-    prices_of s.args.vertex-price.now s.args.edge-price.now s.args.sets s.args.set-price.now s.args.set-vertices.now
-    s.args.set-edges.now
+    prices_of s.args.vertex_price.now s.args.edge_price.now s.args.sets s.args.set_price.now s.args.set_vertices.now
+    s.args.set_edges.now
 
 abbrev oddSets : tie.Start → Test
 oddSets s = set_test (graph s) s.args.bound.now (prices s)
@@ -56,9 +56,9 @@ decide : (c : tie.In_default) {v : Outcome Measures} →
     let s = start c.before in
     v ≡ passing (oddSets s ∷ covers s ∷ []) (answer s) → v ≡ yields_later (graph s) s.args.bound.now s.args.chosen.now (prices s)
 decide c e =
-    let p = c.before in
-    let s = start p in
-    last_decide (graph s) s.args.bound.now s.args.chosen.now (prices s) p.check_prices.result (prices-say p) c.in_default.is e
+    let p = c in
+    let s = start p.before in
+    last_decide (graph s) s.args.bound.now s.args.chosen.now (prices s) p.check_prices.result (prices-say p.before) c.in_default.is e
 
 -- What the test of the odd sets says.
 abbrev start2 : tie.After-lowest_set → tie.Start
@@ -72,42 +72,42 @@ set-say c is =
 
 returns : tie.Need-returns-in-Refused
 returns c =
-    let p = c.before in
-    let s = start p in
-    ap told (prices_refused (graph s) s.args.bound.now s.args.chosen.now (prices s) p.check_prices.result (prices-say p) c.in-Refused.is)
+    let p = c in
+    let s = start p.before in
+    ap told (prices_refused (graph s) s.args.bound.now s.args.chosen.now (prices s) p.check_prices.result (prices-say p.before) c.in-Refused.is)
 
 refused-measure-requires : tie.Need-refused_measure-requires
 refused-measure-requires c κs =
-    let l = c.before in
-    let s = start2 l in
-    place_fits (oddSets s).items (oddSets s).keeps (set-say l c.in-At.is) (omega arith)
+    let l = c in
+    let s = start2 l.before in
+    place_fits (oddSets s).items (oddSets s).keeps (set-say l.before c.in-At.is) (omega arith)
 
 returns-2 : tie.Need-returns-in-At
 returns-2 c =
-    let l = c.before.before in
-    let s = start2 l in
+    let l = c in
+    let s = start2 l.before.before in
     ap measure_says c.refused_measure.ensures
     ∙ ap told
     (ap (refuses OddSet) (add-one _)
-    ∙ decide l.before.before (first_refuses (oddSets s) (covers s) (answer s) (set-say l c.in-At.is)))
+    ∙ decide l.before.before.before.before (first_refuses (oddSets s) (covers s) (answer s) (set-say l.before.before c.in-At.is)))
 
 covered-table-requires : tie.Need-covered_table-covered-requires
 covered-table-requires c κs =
-    let l = c.before in
-    let s = start2 l in
+    let l = c in
+    let s = start2 l.before in
     let h = s.requires in
-    let few = few-sets (graph s) s.args.bound.now s.args.chosen.now (prices s) (set-say l c.in_default-lowest_set.is) in
+    let few = few-sets (graph s) s.args.bound.now s.args.chosen.now (prices s) (set-say l.before c.in_default-lowest_set.is) in
     ((h.passed.sound, h.marks), (few, h.lengths.set_vertices, h.lengths.set_edges))
 
 measure-tabled-requires : tie.Need-measure_tabled-requires
 measure-tabled-requires c κs =
-    let l = c.before.before in
-    let s = start2 l in
+    let l = c in
+    let s = start2 l.before.before in
     let h = s.requires in
     let z = h.passed.sound.sizes in
-    let few = few-sets (graph s) s.args.bound.now s.args.chosen.now (prices s) (set-say l c.in_default-lowest_set.is) in
-    let at-enum-told = l.before.before in
-    let at-check-prices = at-enum-told.before in
+    let few = few-sets (graph s) s.args.bound.now s.args.chosen.now (prices s) (set-say l.before.before c.in_default-lowest_set.is) in
+    let at-enum-told = l in
+    let at-check-prices = at-enum-told in
     let d = at-check-prices.degrees-degree in
     let q = at-check-prices.check_prices in
     let load = l.load_table-load.ensures in
@@ -129,11 +129,11 @@ measure-tabled-requires c κs =
 
 returns-3 : tie.Need-returns
 returns-3 c =
-    let l = c.before.before.before in
-    let s = start2 l in
+    let l = c in
+    let s = start2 l.before.before.before in
     c.measure_tabled.ensures
     ∙ ap told
-    (decide l.before.before (sym (passing-none (oddSets s) (covers s ∷ []) (answer s) (set-say l c.in_default-lowest_set.is))))
+    (decide l.before.before.before.before.before (sym (passing-none (oddSets s) (covers s ∷ []) (answer s) (set-say l.before.before.before c.in_default-lowest_set.is))))
 
 pub measure_passed_spec : {M : Type 1} → statement M
 measure_passed_spec =

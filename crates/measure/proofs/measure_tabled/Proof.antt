@@ -24,8 +24,8 @@ graph s = graph_of s.args.s s.args.row.now s.args.column.now s.args.weight.now
 
 abbrev prices : tie.Start → Prices
 prices s =
-    prices_of s.args.vertex-price.now s.args.edge-price.now s.args.tables.sets s.args.set-price.now s.args.set-vertices.now
-    s.args.set-edges.now
+    prices_of s.args.vertex_price.now s.args.edge_price.now s.args.tables.sets s.args.set_price.now s.args.set_vertices.now
+    s.args.set_edges.now
 
 abbrev covers : tie.Start → Test
 covers s = cover_test (graph s) (prices s)
@@ -46,16 +46,16 @@ uncovered-say c is =
 
 refused-measure-requires : tie.Need-refused_measure-requires
 refused-measure-requires c κs =
-    let u = c.before in
-    let s = start u in
-    place_fits (covers s).items (covers s).keeps (uncovered-say u c.in-At.is) (omega (arith, s.requires.0.passed.sound.sizes.few))
+    let u = c in
+    let s = start u.before in
+    place_fits (covers s).items (covers s).keeps (uncovered-say u.before c.in-At.is) (omega (arith, s.requires.0.passed.sound.sizes.few))
 
 returns : tie.Need-returns-in-At
 returns c =
-    let u = c.before.before in
-    let s = start u in
+    let u = c in
+    let s = start u.before.before in
     ap measure_says c.refused_measure.ensures
-    ∙ ap told (ap (refuses Uncovered) (add-one _) ∙ sym (passing-found (covers s) [] (answer s) _ (uncovered-say u c.in-At.is)))
+    ∙ ap told (ap (refuses Uncovered) (add-one _) ∙ sym (passing-found (covers s) [] (answer s) _ (uncovered-say u.before.before c.in-At.is)))
 
 numbers-requires : tie.Need-numbers-requires
 numbers-requires c κs =
@@ -73,12 +73,12 @@ numbers-requires c κs =
 
 returns-2 : tie.Need-returns
 returns-2 c =
-    let u = c.before.before.before in
-    let s = start u in
+    let u = c in
+    let s = start u.before.before.before in
     let t = c.cover_table in
     ap told
     (ap yields (c.numbers.ensures ∙ measures-by (graph s) s.args.bound.now s.args.chosen.now (prices s) t.new.1.1.1.1.1.1.1.1.1.0 s.requires.1 t.ensures)
-    ∙ sym (passing-none (covers s) [] (answer s) (uncovered-say u c.in_default.is)))
+    ∙ sym (passing-none (covers s) [] (answer s) (uncovered-say u.before.before.before c.in_default.is)))
 
 pub measure_tabled_spec : {M : Type 1} → statement M
 measure_tabled_spec =

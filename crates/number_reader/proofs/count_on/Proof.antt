@@ -15,13 +15,13 @@ returns-2 c =
 
 returns-3 : tie.Need-returns-then-columns-ne1
 returns-3 c =
-    let at_rows = c.before.before in
+    let at_rows = c in
     let two-naturals = at_rows.two_naturals in
     columns_wrong _ two-naturals.ensures at_rows.in-Is.is c.if-columns-ne1.true
 
 returns-4 : tie.Need-returns
 returns-4 c =
-    let at_rows = c.before.before in
+    let at_rows = c in
     let two-naturals = at_rows.two_naturals in
     sizes_right _ two-naturals.ensures at_rows.in-Is.is c.if-rows-count.false c.if-columns-ne1.false
 

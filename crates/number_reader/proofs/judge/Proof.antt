@@ -8,12 +8,12 @@ use Rattle.number_reader.proofs.judge.Tie as tie
 
 returns : tie.Need-returns-then-number_in_range
 returns c =
-    let s = c.before.before in
+    let s = c in
     judged-in s.args.rules s.args.what (back w32 s.args.z s.ranges.z.sfits) c.number_in_range.ensures c.if-number_in_range.true
 
 returns-2 : tie.Need-returns-else-number_in_range
 returns-2 c =
-    let s = c.before.before.before in
+    let s = c in
     let back-z = back w32 s.args.z s.ranges.z.sfits in
     (judged-out s.args.rules s.args.what back-z c.number_in_range.ensures c.outside.ensures c.if-number_in_range.false, tt)
 

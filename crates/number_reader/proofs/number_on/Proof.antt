@@ -10,9 +10,9 @@ returns c = (number_bad _ _ _ c.one_integer.ensures c.in_default.is, tt)
 
 returns-2 : tie.Need-returns
 returns-2 c =
-    let at-z = c.before in
-    let at-one-integer = at-z.before in
-    let start = at-one-integer.before.before in
+    let at-z = c in
+    let at-one-integer = at-z in
+    let start = at-one-integer in
     let a = start.args in
     let judge = c.judge in
     (number-judged a.rules a.what (words a.line.now) at-one-integer.one_integer.ensures at-z.in-Is.is judge.result judge.ensures.0, judge.ensures.1)

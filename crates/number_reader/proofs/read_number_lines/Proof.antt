@@ -29,8 +29,8 @@ part-line-end c =
 returns : tie.Need-returns-then-not-is_header
 returns c =
     let is-header = c.is_header in
-    let at-start = c.before.before.before.before.before.before.before.before.before in
-    let at-header-line = at-start.before.before in
+    let at-start = c in
+    let at-header-line = at-start in
     let args = at-header-line.args in
     let L = number_layout args.rules args.what args.count in
     read_refused _
@@ -39,7 +39,7 @@ returns c =
 
 size-line-requires : tie.Need-size_line-requires
 size-line-requires c κs =
-    let at-start = c.before.before.before.before.before.before.before.before in
+    let at-start = c in
     let header-line = at-start.header_line in
     (opened_line header-line.ensures at-start.in-At.is).reached
 
@@ -60,14 +60,14 @@ part-count-on-end c =
 
 read-values-requires : tie.Need-read_values-requires
 read-values-requires c κs =
-    let at-count-on = c.before.before in
-    let at-start2 = at-count-on.before.before in
-    let at-size-line = at-start2.before in
-    let at-if1 = at-size-line.before in
-    let at-is-header = at-if1.before in
-    let at-start = at-is-header.before.before.before.before.before.before.before in
-    let at-header-line = at-start.before.before in
-    let start = at-header-line.before in
+    let at-count-on = c in
+    let at-start2 = at-count-on in
+    let at-size-line = at-start2 in
+    let at-if1 = at-size-line in
+    let at-is-header = at-if1 in
+    let at-start = at-is-header in
+    let at-header-line = at-start in
+    let start = at-header-line in
     let L = number_layout start.args.rules start.args.what start.args.count in
     let w = header-goes L at-header-line.header_line.ensures at-start.in-At.is tt
     (header-right _ at-is-header.is_header.ensures at-if1.if-not-is_header.false) in (
@@ -78,17 +78,17 @@ read-values-requires c κs =
 
 returns-2 : tie.Need-returns-in-Refused
 returns-2 c =
-    let at-header-line = c.before in
+    let at-header-line = c in
     let args = at-header-line.args in
     let L = number_layout args.rules args.what args.count in read_refused _ (header_refused L at-header-line.header_line.ensures c.in-Refused.is)
 
 returns-3 : tie.Need-returns-in-Refused-size_line
 returns-3 c =
-    let at-size-line = c.before in
-    let at-if1 = at-size-line.before in
-    let at-is-header = at-if1.before in
-    let at-start = at-is-header.before.before.before.before.before.before.before in
-    let at-header-line = at-start.before.before in
+    let at-size-line = c in
+    let at-if1 = at-size-line in
+    let at-is-header = at-if1 in
+    let at-start = at-is-header in
+    let at-header-line = at-start in
     let args = at-header-line.args in
     let L = number_layout args.rules args.what args.count in
     let w = header-goes L at-header-line.header_line.ensures at-start.in-At.is tt
@@ -98,13 +98,13 @@ returns-3 c =
 returns-4 : tie.Need-returns-in-Refused-count_on
 returns-4 c =
     let fault = c.in-Refused-count_on in
-    let at-count-on = c.before.before in
-    let at-start2 = at-count-on.before.before in
-    let at-size-line = at-start2.before in
-    let at-if1 = at-size-line.before in
-    let at-is-header = at-if1.before in
-    let at-start = at-is-header.before.before.before.before.before.before.before in
-    let at-header-line = at-start.before.before in
+    let at-count-on = c in
+    let at-start2 = at-count-on in
+    let at-size-line = at-start2 in
+    let at-if1 = at-size-line in
+    let at-is-header = at-if1 in
+    let at-start = at-is-header in
+    let at-header-line = at-start in
     let args = at-header-line.args in
     let L = number_layout args.rules args.what args.count in
     let w = header-goes L at-header-line.header_line.ensures at-start.in-At.is tt
@@ -123,10 +123,6 @@ read_number_lines_spec =
     sub-line
     part-line-start
     part-line-end
-    (λ c. search rules)
-    (λ c. search rules)
-    (λ c. search rules)
-    (λ c. search rules)
     (λ c κs. search rules)
     (λ c κs. search rules)
     returns
@@ -138,7 +134,7 @@ read_number_lines_spec =
     part-count-on-end
     (λ c κs. search rules)
     (λ c. search rules)
-    (λ c κs. search rules)
+    (λ c. search rules)
     (λ c. search rules)
     read-values-requires
     returns-2

@@ -11,9 +11,9 @@ use Rattle.number_reader.proofs.read_numbers_by.Tie as tie
 
 read-number-lines-requires : tie.Need-read_number_lines-requires
 read-number-lines-requires c κs =
-    let at-check-text = c.before.before in
-    let at-count-in-range = at-check-text.before in
-    let at-clear-integers = at-count-in-range.before.before in
+    let at-check-text = c in
+    let at-count-in-range = at-check-text in
+    let at-clear-integers = at-count-in-range in
     let args = at-clear-integers.args in
     at-clear-integers.clear_integers.ensures
     ∙ ap (λ (k : ℕ). replicate k (pos 0))
@@ -24,9 +24,9 @@ read-number-lines-requires c κs =
 
 returns : tie.Need-returns-in-Refused
 returns c =
-    let at-check-text = c.before in
-    let at-count-in-range = at-check-text.before in
-    let at-clear-integers = at-count-in-range.before.before in
+    let at-check-text = c in
+    let at-count-in-range = at-check-text in
+    let at-clear-integers = at-count-in-range in
     let args = at-clear-integers.args in
     whole_lent args.rules args.what args.count (length args.out.now) args.text.now
     (ap (λ (k : ℕ). eqb k args.count)
@@ -35,11 +35,11 @@ returns c =
 
 returns-2 : tie.Need-returns-in-Read
 returns-2 c =
-    let at-read-number-lines = c.before.before in
-    let at-enum-told = at-read-number-lines.before.before in
-    let at-check-text = at-enum-told.before in
-    let at-count-in-range = at-check-text.before in
-    let at-clear-integers = at-count-in-range.before.before in
+    let at-read-number-lines = c in
+    let at-enum-told = at-read-number-lines in
+    let at-check-text = at-enum-told in
+    let at-count-in-range = at-check-text in
+    let at-clear-integers = at-count-in-range in
     let args = at-clear-integers.args in
     whole_read args.rules args.what args.count (length args.out.now) args.text.now
     (ap (λ (k : ℕ). eqb k args.count)
@@ -48,12 +48,12 @@ returns-2 c =
 
 returns-3 : tie.Need-returns-in-Refused-read_number_lines
 returns-3 c =
-    let at-r2 = c.before.before.before in
-    let at-read-number-lines = at-r2.before.before in
-    let at-enum-told = at-read-number-lines.before.before in
-    let at-check-text = at-enum-told.before in
-    let at-count-in-range = at-check-text.before in
-    let at-clear-integers = at-count-in-range.before.before in
+    let at-r2 = c in
+    let at-read-number-lines = at-r2 in
+    let at-enum-told = at-read-number-lines in
+    let at-check-text = at-enum-told in
+    let at-count-in-range = at-check-text in
+    let at-clear-integers = at-count-in-range in
     let args = at-clear-integers.args in
     whole_refused args.rules args.what args.count (length args.out.now) args.text.now
     (ap (λ (k : ℕ). eqb k args.count)

@@ -36,7 +36,7 @@ same-length-2 c = c.loop-r.invariant.same
 
 returns-2 : tie.Need-returns-in-Refused invariant-loop decreases-loop
 returns-2 c =
-    let at-later-line = c.before in
+    let at-later-line = c in
     let inv = at-later-line.loop-r.invariant in
     turn_refused inv at-later-line.later_line.ensures c.in-Refused.is
 
@@ -61,38 +61,38 @@ same-length-3 c = c.loop-r.invariant.same
 returns-3 : tie.Need-returns-in-Refused-number_on invariant-loop decreases-loop
 returns-3 c =
     let fault = c.in-Refused-number_on in
-    let at-number-on = c.before.before in
-    let at-start = at-number-on.before.before in
-    let at-later-line = at-start.before in
+    let at-number-on = c in
+    let at-start = at-number-on in
+    let at-later-line = at-start in
     let inv = at-later-line.loop-r.invariant in
     turn_stops inv at-later-line.later_line.ensures at-start.in-At.is at-number-on.number_on.ensures.0 fault.is
     c.refused_at.ensures
 
 slice-set-from-value : tie.Need-bounds-out-i invariant-loop decreases-loop
 slice-set-from-value c =
-    let at-start = c.before.before.before in
-    let at-later-line = at-start.before in
+    let at-start = c in
+    let at-later-line = at-start in
     let inv = at-later-line.loop-r.invariant in
     omega (arith, turn_below inv at-later-line.later_line.ensures at-start.in-At.is, turn_length inv)
 
 add-i : tie.Need-overflow_add-i invariant-loop decreases-loop
 add-i c =
-    let at-start = c.before.before.before in
-    let at-later-line = at-start.before in
+    let at-start = c in
+    let at-later-line = at-start in
     let inv = at-later-line.loop-r.invariant in
     omega (arith, turn_below inv at-later-line.later_line.ensures at-start.in-At.is)
 
 loop-less : tie.Need-loop-r-smaller invariant-loop decreases-loop
 loop-less c =
-    let at-start = c.before.before.before in
+    let at-start = c in
     let later-line = at-start.later_line in
     let w = (later_found later-line.ensures at-start.in-At.is).0 in omega (arith, w.onward, w.reached.reach)
 
 loop-again : tie.Need-loop-r-preserved invariant-loop decreases-loop
 loop-again c =
-    let at-number-on = c.before in
-    let at-start = at-number-on.before.before in
-    let at-later-line = at-start.before in
+    let at-number-on = c in
+    let at-start = at-number-on in
+    let at-later-line = at-start in
     let inv = at-later-line.loop-r.invariant in
     turn_takes inv at-later-line.later_line.ensures at-start.in-At.is at-number-on.number_on.ensures.0 c.in-Is.is
     at-number-on.number_on.ensures.1

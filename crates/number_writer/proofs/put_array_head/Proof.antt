@@ -6,11 +6,11 @@ use Rattle.number_writer.proofs.put_array_head.Tie as tie
 
 returns : tie.Need-returns
 returns c =
-    let second = c.before.before in
-    let first = second.before.before.before.before in
-    let header = first.before.before.before.before in
-    let cleared = header.before.before.before.before.before in
-    let s = cleared.before.before.before in
+    let second = c in
+    let first = second in
+    let header = first in
+    let cleared = header in
+    let s = cleared in
     head-put s.args.out.now s.args.count s.requires cleared.clear_bytes.ensures header.put_bytes-a.ensures first.put_field-b.ensures
     second.put_field.ensures
 
@@ -19,7 +19,6 @@ put_array_head_spec =
     tie.close
     (tie.spec
     (λ c κs. search rules)
-    (λ c. search rules)
     (λ c κs. search rules)
     (λ c κs. search rules)
     (λ c κs. search rules)

@@ -6,10 +6,10 @@ use Rattle.number_writer.proofs.put_numbers.Tie as tie
 
 returns : tie.Need-returns
 returns c =
-    let second = c.before.before in
-    let first = second.before.before.before.before in
-    let head = first.before.before.before.before in
-    let s = head.before.before.before in
+    let second = c in
+    let first = second in
+    let head = first in
+    let s = head in
     numbers_written s.args.out.now s.args.first.now s.args.rest.now s.requires.0 s.requires.1 head.put_array_head-a.ensures
     first.put_values-b.ensures second.put_values.ensures
 

@@ -21,25 +21,25 @@ numbers s = s.args.values.now
 -- There is a byte after the number.
 line-fits : (c : tie.After-put_signed-end invariant-loop decreases-loop) → c.put_signed-end.result + 1 ≤ length c.put_signed-end.new.0
 line-fits c =
-    let t = c.before.before.before in
-    let l = t.before in
-    omega (arith, value_room (numbers l.before.before) l.loop-k.invariant t.loop-k-test.true, c.put_signed-end.ensures.1, c.put_signed-end.auto.out)
+    let t = c in
+    let l = t in
+    omega (arith, value_room (numbers l.before.before.before.before.before.before) l.loop-k.invariant t.loop-k-test.true, c.put_signed-end.ensures.1, c.put_signed-end.auto.out)
 
 loop-holds : tie.Need-loop-k-init invariant-loop decreases-loop
-loop-holds c = let s = c.before in values-start (numbers s) s.args.out.now s.args.start s.requires
+loop-holds c = let s = c in values-start (numbers s.before) s.args.out.now s.args.start s.requires
 
 put-signed-requires : tie.Need-put_signed-end-requires invariant-loop decreases-loop
 put-signed-requires c κs =
-    let t = c.before.before in
-    let l = t.before in
-    omega (arith, value_room (numbers l.before.before) l.loop-k.invariant t.loop-k-test.true)
+    let t = c in
+    let l = t in
+    omega (arith, value_room (numbers l.before.before.before.before.before) l.loop-k.invariant t.loop-k-test.true)
 
 loop-again : tie.Need-loop-k-preserved invariant-loop decreases-loop
 loop-again c =
-    let p = c.before.before in
-    let t = p.before.before.before in
-    let l = t.before in
-    let zs = numbers l.before.before in
+    let p = c in
+    let t = p in
+    let l = t in
+    let zs = numbers l.before.before.before.before.before.before.before.before in
     let e = p.element in
     let lt = t.loop-k-test.true in
     values-more zs l.loop-k.invariant lt (value-put zs l.loop-k.invariant lt e.ensures.0 e.type_inv p.put_signed-end.ensures)

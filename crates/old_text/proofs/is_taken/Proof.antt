@@ -10,13 +10,13 @@ returns c = taken-first _ (sym c.if-is_taken_as.true ∙ c.is_taken_as.ensures)
 
 returns-2 : tie.Need-returns-then-is_taken_as-2
 returns-2 c =
-    let at-is-taken-as = c.before.before.before in
+    let at-is-taken-as = c in
     taken-second _ (sym c.if-is_taken_as.false ∙ at-is-taken-as.is_taken_as.ensures) (sym c.if-is_taken_as-2.true ∙ c.is_taken_as-2.ensures)
 
 returns-3 : tie.Need-returns
 returns-3 c =
-    let at-if1 = c.before.before.before in
-    let at-is-taken-as = at-if1.before in
+    let at-if1 = c in
+    let at-is-taken-as = at-if1 in
     taken-third _ (sym at-if1.if-is_taken_as.false ∙ at-is-taken-as.is_taken_as.ensures) (sym c.if-is_taken_as-2.false ∙ c.is_taken_as-2.ensures) c.is_taken_as_numbers.ensures
 
 pub is_taken_spec : {M : Type 1} → statement M

@@ -9,15 +9,15 @@ use Rattle.old_text.proofs.is_taken_as.Tie as tie
 
 returns : tie.Need-returns-in-Graph
 returns c =
-    let at-read-graph-by = c.before.before.before.before in
-    let start = at-read-graph-by.before.before.before.before.before in
+    let at-read-graph-by = c in
+    let start = at-read-graph-by in
     let a = start.args in
     graph_taken (read_graph_by Old a.field most_edges most_edges most_edges a.text.now) at-read-graph-by.read_graph_by.ensures.0 c.in-Graph.is
 
 returns-2 : tie.Need-returns-in-Refused
 returns-2 c =
-    let at-read-graph-by = c.before.before.before.before in
-    let start = at-read-graph-by.before.before.before.before.before in
+    let at-read-graph-by = c in
+    let start = at-read-graph-by in
     let a = start.args in
     graph_refused (read_graph_by Old a.field most_edges most_edges most_edges a.text.now) at-read-graph-by.read_graph_by.ensures.0 c.in-Refused.is
 

@@ -21,20 +21,20 @@ slice-aggregate-read-numbers-by c = sym (length-take-le c.told_count-count.resul
 
 returns-2 : tie.Need-returns-in-Read
 returns-2 c =
-    let at-read-numbers-by = c.before.before in
-    let at-if1 = at-read-numbers-by.before.before in
-    let at-told-count = at-if1.before in
-    let start = at-told-count.before.before in
+    let at-read-numbers-by = c in
+    let at-if1 = at-read-numbers-by in
+    let at-told-count = at-if1 in
+    let start = at-told-count in
     let t = at-told-count.told_count-count in
     numbers_read_taken start.args.text.now t.result t.ensures (length-take-le t.result zeros at-if1.if-count.false) _
     at-read-numbers-by.read_numbers_by.ensures.0 c.in-Read.is
 
 returns-3 : tie.Need-returns-in-Refused
 returns-3 c =
-    let at-read-numbers-by = c.before.before in
-    let at-if1 = at-read-numbers-by.before.before in
-    let at-told-count = at-if1.before in
-    let start = at-told-count.before.before in
+    let at-read-numbers-by = c in
+    let at-if1 = at-read-numbers-by in
+    let at-told-count = at-if1 in
+    let start = at-told-count in
     let t = at-told-count.told_count-count in
     numbers_refused start.args.text.now t.result t.ensures (length-take-le t.result zeros at-if1.if-count.false) _
     at-read-numbers-by.read_numbers_by.ensures.0 c.in-Refused.is

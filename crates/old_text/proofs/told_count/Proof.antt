@@ -22,28 +22,28 @@ returns c = λ what k zs e. header-there _ what k zs e c.header_line.ensures c.i
 
 returns-2 : tie.Need-returns-in-Refused-size_line
 returns-2 c =
-    let at-size-line = c.before in
-    let at-start = at-size-line.before in
-    let at-header-line = at-start.before in
+    let at-size-line = c in
+    let at-start = at-size-line in
+    let at-header-line = at-start in
     λ what k zs e. size_there _ what k zs e at-header-line.header_line.ensures at-start.in-At.is at-size-line.size_line.ensures c.in-Refused-size_line.is
 
 returns-3 : tie.Need-returns-in-Is
 returns-3 c =
-    let at-two-naturals = c.before in
-    let at-start2 = at-two-naturals.before.before in
-    let at-size-line = at-start2.before in
-    let at-start = at-size-line.before in
-    let at-header-line = at-start.before in
+    let at-two-naturals = c in
+    let at-start2 = at-two-naturals in
+    let at-size-line = at-start2 in
+    let at-start = at-size-line in
+    let at-header-line = at-start in
     λ what k zs e.
     count_told _ what k zs e at-header-line.header_line.ensures at-start.in-At.is at-size-line.size_line.ensures at-start2.in-At-size_line.is _
     at-two-naturals.two_naturals.ensures c.in-Is.is
 
 returns-4 : tie.Need-returns-in-Bad
 returns-4 c =
-    let at-start2 = c.before.before.before in
-    let at-size-line = at-start2.before in
-    let at-start = at-size-line.before in
-    let at-header-line = at-start.before in
+    let at-start2 = c in
+    let at-size-line = at-start2 in
+    let at-start = at-size-line in
+    let at-header-line = at-start in
     λ what k zs e.
     count_there _ what k zs e at-header-line.header_line.ensures at-start.in-At.is at-size-line.size_line.ensures at-start2.in-At-size_line.is _
     c.two_naturals.ensures c.in-Bad.is

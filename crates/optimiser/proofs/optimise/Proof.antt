@@ -26,7 +26,7 @@ lent-to c = c.before.before.before.before.before.before.before.before.before.bef
 
 tabled : (c : Made) → BoundsTabled (made-from c).args.bound.now c.begin_lists.new.1.1.1.1.1.0
 tabled c =
-    let at-keep-rows = c.before.before in
+    let at-keep-rows = c in
     let same = bounds_kept at-keep-rows.keep_rows.ensures.1.0 c.begin_lists.ensures in
     table_same same c.begin_lists.ensures.long at-keep-rows.table_of-table.ensures
 
@@ -50,14 +50,14 @@ serving-order-requires c κs =
 
 serve-rows-requires : tie.Need-serve_rows-served-requires
 serve-rows-requires c κs =
-    let at-first-prices = c.before.before.before.before.before.before.before in
-    let at-serving-order = at-first-prices.before in
-    let at-begin-lists = at-serving-order.before.before in
-    let at-keep-rows = at-begin-lists.before.before in
-    let start = made-from at-begin-lists in
+    let at-first-prices = c in
+    let at-serving-order = at-first-prices in
+    let at-begin-lists = at-serving-order in
+    let at-keep-rows = at-begin-lists in
+    let start = made-from at-begin-lists.before.before.before.before.before.before.before.before.before.before in
     let pre = start.requires in
     let later = pre.1.1 in
-    let table = tabled at-begin-lists in
+    let table = tabled at-begin-lists.before.before.before.before.before.before.before.before.before.before in
     let g = graph_of start.args.s start.args.row.now start.args.column.now start.args.weight.now in
     let kept = at-keep-rows.keep_rows.ensures in
     let first = at-first-prices.first_prices-price in
@@ -71,8 +71,8 @@ serve-rows-requires c κs =
 
 returns : tie.Need-returns-then-not-served
 returns c =
-    let at-serve-rows = c.before.before.before.before in
-    let made = lent-to at-serve-rows in
+    let at-serve-rows = c in
+    let made = lent-to at-serve-rows.before.before.before.before in
     let start = made-from made in
     let pre = start.requires in
     let later = pre.1.1 in
@@ -85,22 +85,22 @@ returns c =
 
 edge-prices-requires : tie.Need-edge_prices-requires
 edge-prices-requires c κs =
-    let at-if1 = c.before.before.before in
-    let at-serve-rows = at-if1.before.before.before.before in
-    let pre = (made-from (lent-to at-serve-rows)).requires in
-    let served = at-serve-rows.serve-rows.ensures.served (went_well at-serve-rows.serve-rows.result at-if1.if1.false) in
+    let at-if1 = c in
+    let at-serve-rows = at-if1 in
+    let pre = (made-from (lent-to at-serve-rows.before.before.before.before.before.before)).requires in
+    let served = at-serve-rows.serve_rows-served.ensures.served (went_well at-serve-rows.serve_rows-served.result at-if1.if-not-served.false) in
     (payable pre.0.passed served.between.good, pre.1.1.1.0.1)
 
 vertex-prices-requires : tie.Need-vertex_prices-requires
 vertex-prices-requires c κs =
-    let at-if1 = c.before.before.before.before.before.before.before in
-    let at-serve-rows = at-if1.before.before.before.before in
-    let made = lent-to at-serve-rows in
+    let at-if1 = c in
+    let at-serve-rows = at-if1 in
+    let made = lent-to at-serve-rows.before.before.before.before.before.before.before.before.before.before in
     let start = made-from made in
     let pre = start.requires in
     let later = pre.1.1 in
     let table = tabled made in
-    let served = at-serve-rows.serve-rows.ensures.served (went_well at-serve-rows.serve-rows.result at-if1.if1.false) in
+    let served = at-serve-rows.serve_rows-served.ensures.served (went_well at-serve-rows.serve_rows-served.result at-if1.if-not-served.false) in
     let good = served.between.good in
     let long = later.1.0.0 in (
       omega (arith, long, few pre.0),
@@ -109,16 +109,16 @@ vertex-prices-requires c κs =
 
 returns-2 : tie.Need-returns
 returns-2 c =
-    let at-vertex-prices = c.before in
-    let at-edge-prices = at-vertex-prices.before.before.before.before in
-    let at-if1 = at-edge-prices.before.before.before.before in
-    let at-serve-rows = at-if1.before.before.before.before in
-    let made = lent-to at-serve-rows in
+    let at-vertex-prices = c in
+    let at-edge-prices = at-vertex-prices in
+    let at-if1 = at-edge-prices in
+    let at-serve-rows = at-if1 in
+    let made = lent-to at-serve-rows.before.before.before.before.before.before.before.before.before.before.before.before in
     let start = made-from made in
     let pre = start.requires in
     let later = pre.1.1 in
     let table = tabled made in
-    let served = at-serve-rows.serve-rows.ensures.served (went_well at-serve-rows.serve-rows.result at-if1.if1.false) in
+    let served = at-serve-rows.serve_rows-served.ensures.served (went_well at-serve-rows.serve_rows-served.result at-if1.if-not-served.false) in
     let long = later.1.0.0 in
     let vertex = at-vertex-prices.vertex_prices.ensures in
     solved pre.0 later.0 (λ v l. table.least v (omega (arith, few pre.0))) (λ v l. table.most v (omega (arith, later.0.long))) served.between.good

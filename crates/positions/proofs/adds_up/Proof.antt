@@ -21,9 +21,9 @@ loop-holds c = (omega arith, adds_none (omega (arith, c.if-index-ne0.false)))
 
 loop-again : tie.Need-loop-v-preserved invariant-loop decreases-loop
 loop-again c =
-    let at-wide2 = c.before.before.before in
-    let at_wide = at-wide2.before in
-    let at-loop = at_wide.before.before.before in
+    let at-wide2 = c in
+    let at_wide = at-wide2 in
+    let at-loop = at_wide in
     let low = at_wide.wide.ensures.0 in
     let counted = at-wide2.wide-in-loop-v.ensures.0 in
     let high = c.wide-in-loop-v-2.ensures.0 in

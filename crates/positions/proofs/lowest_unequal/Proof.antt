@@ -19,7 +19,7 @@ loop-holds c = kept_none
 
 loop-again : tie.Need-loop-k-preserved invariant-loop decreases-loop
 loop-again c =
-    let at-loop = c.before.before.before.before in
+    let at-loop = c in
     let a = at-loop.args in
     let k = at-loop.loop-k.k in
     let same = eq-eqb (get_or a.index.now k 0) (get_or a.own.now k 0) c.if-index-k.true in
@@ -27,7 +27,7 @@ loop-again c =
 
 returns : tie.Need-returns-else-index-k invariant-loop decreases-loop
 returns c =
-    let at-loop = c.before.before.before.before in
+    let at-loop = c in
     let a = at-loop.args in
     let k = at-loop.loop-k.k in
     let other = ne_eqb (get_or a.index.now k 0) (get_or a.own.now k 0) c.if-index-k.false in

@@ -37,13 +37,13 @@ add-cost c =
 
 value-at-requires : tie.Need-value_at-requires
 value-at-requires c κs =
-    let start = c.before.before.before.before.before.before.before.before in
+    let start = c in
     let pre = start.requires in
     (omega (arith, pre.0.passed.weight_long, pre.1), weight_within pre.0.passed start.args.e pre.1)
 
 sub-result : tie.Need-overflow_sub-result
 sub-result c =
-    let at-ends-at = c.before.before.before in
+    let at-ends-at = c in
     let pre = at-ends-at.requires in
     let ends = at-ends-at.ends_at-ends.ensures in
     let cost = cost-is pre.0 pre.1 ends.0 ends.1 in
@@ -51,7 +51,7 @@ sub-result c =
 
 returns-2 : tie.Need-returns
 returns-2 c =
-    let at-ends-at = c.before.before.before in
+    let at-ends-at = c in
     let pre = at-ends-at.requires in
     let ends = at-ends-at.ends_at-ends.ensures in
     let cost = cost-is pre.0 pre.1 ends.0 ends.1 in

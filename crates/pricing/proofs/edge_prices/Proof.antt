@@ -35,17 +35,17 @@ put-natural-requires c κs = (c.loop-e-test.true, omega (arith, c.edge_price_of-
 
 add-e : tie.Need-overflow_add-e invariant-loop decreases-loop
 add-e c =
-    let at-loop-test = c.before.before.before.before in
+    let at-loop-test = c in
     omega (arith, at-loop-test.loop-e.invariant.long, at-loop-test.loop-e-test.true)
 
 loop-less : tie.Need-loop-e-smaller invariant-loop decreases-loop
 loop-less c =
-    let at-loop-test = c.before.before.before.before in
+    let at-loop-test = c in
     omega (arith, at-loop-test.loop-e.invariant.long, at-loop-test.loop-e-test.true)
 
 loop-again : tie.Need-loop-e-preserved invariant-loop decreases-loop
 loop-again c =
-    let at-loop-test = c.before.before.before.before in
+    let at-loop-test = c in
     let price = c.edge_price_of-k.ensures in
     rw c.put_natural.ensures
     (fill_more _ at-loop-test.loop-e.invariant at-loop-test.loop-e-test.true (ap (λ n. half_points (pos n)) price.0))

@@ -15,14 +15,14 @@ returns c =
 
 slice-aggregate-read-numbers : tie.Need-slice_bounds-read_numbers-end-2
 slice-aggregate-read-numbers c =
-    let at-clear-integers = c.before.before.before in
-    let s = at-clear-integers.before.before.before in
+    let at-clear-integers = c in
+    let s = at-clear-integers in
     bounds_long (length s.args.bound.now) s.args.n s.args.limits.now at-clear-integers.clear_integers.ensures
     c.if-bound-ne-MOST_VERTICES.false s.requires
 
 returns-2 : tie.Need-returns
 returns-2 c =
-    let s = c.before.before.before.before.before.before.before.before in
+    let s = c in
     let b = length s.args.bound.now in
     let zeros = c.clear_integers.ensures in
     let right = c.if-bound-ne-MOST_VERTICES.false in

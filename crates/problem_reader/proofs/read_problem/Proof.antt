@@ -9,16 +9,16 @@ use Rattle.problem_reader.proofs.read_problem.Tie as tie
 
 read-bounds-requires : tie.Need-read_bounds-requires
 read-bounds-requires c κs =
-    let at-s = c.before.before in
-    let at-read-graph = at-s.before.before.before.before.before.before in
+    let at-s = c in
+    let at-read-graph = at-s in
     let a = at-read-graph.args in
     let g = at-read-graph.read_graph.ensures in
     told-few (length a.row.now) (length a.column.now) (length a.weight.now) a.sheet.now g.0 at-s.in-Graph.is c.vertex_count.ensures
 
 returns : tie.Need-returns-in-Refused
 returns c =
-    let at-refusal = c.before.before.before in
-    let at-read-graph = at-refusal.before.before.before.before.before.before in
+    let at-refusal = c in
+    let at-read-graph = at-refusal in
     let a = at-read-graph.args in
     let g = at-read-graph.read_graph.ensures in
     sheet-refused (length a.row.now) (length a.column.now) (length a.weight.now) (length a.bound.now) a.sheet.now a.limits.now
@@ -26,13 +26,13 @@ returns c =
 
 returns-2 : tie.Need-returns-in-Refused-read_bounds
 returns-2 c =
-    let at-clear-naturals2 = c.before.before.before.before.before in
-    let at-clear-naturals = at-clear-naturals2.before.before.before.before in
-    let at-refusal2 = at-clear-naturals.before.before in
-    let at-read-bounds = at-refusal2.before.before in
-    let at-vertex-count = at-read-bounds.before.before in
-    let at-s = at-vertex-count.before in
-    let at-read-graph = at-s.before.before.before.before.before.before in
+    let at-clear-naturals2 = c in
+    let at-clear-naturals = at-clear-naturals2 in
+    let at-refusal2 = at-clear-naturals in
+    let at-read-bounds = at-refusal2 in
+    let at-vertex-count = at-read-bounds in
+    let at-s = at-vertex-count in
+    let at-read-graph = at-s in
     let a = at-read-graph.args in
     let d = at-read-graph.read_graph in
     let g = d.ensures in
@@ -45,10 +45,10 @@ returns-2 c =
 
 returns-3 : tie.Need-returns-in-Read
 returns-3 c =
-    let at-read-bounds = c.before.before in
-    let at-vertex-count = at-read-bounds.before.before in
-    let at-s = at-vertex-count.before in
-    let at-read-graph = at-s.before.before.before.before.before.before in
+    let at-read-bounds = c in
+    let at-vertex-count = at-read-bounds in
+    let at-s = at-vertex-count in
+    let at-read-graph = at-s in
     let a = at-read-graph.args in
     let g = at-read-graph.read_graph.ensures in
     let b = at-read-bounds.read_bounds.ensures in

@@ -9,8 +9,8 @@ use Rattle.ranges.proofs.bound_in_range.Tie as tie
 
 returns : tie.Need-returns
 returns c =
-    let start = c.before in
-    c.in_range.ensures ∙ ap bound_in_range (back w32 start.args.x start.fits.x.sfits)
+    let start = c in
+    c.in_range.ensures ∙ ap bound_in_range (back w32 start.args.x start.ranges.x.sfits)
 
 pub bound_in_range_spec : {M : Type 1} → statement M
 bound_in_range_spec = tie.close (tie.spec

@@ -10,8 +10,8 @@ use Rattle.ranges.proofs.ends_in_range.Tie as tie
 returns : tie.Need-returns-in-Bipartite
 returns c =
     let both = c.both-inside in
-    let at-up-to2 = c.before.before in
-    let at-up-to = at-up-to2.before in
+    let at-up-to2 = c in
+    let at-up-to = at-up-to2 in
     let args = at-up-to.args in
     both.ensures
     ∙ ap₂ ◌&&◌ at-up-to.up_to.ensures at-up-to2.up_to-2.ensures
@@ -19,9 +19,9 @@ returns c =
 
 returns-2 : tie.Need-returns-in-General
 returns-2 c =
-    let at_both = c.before.before in
-    let at-up-to2 = at_both.before in
-    let at-up-to = at-up-to2.before in
+    let at_both = c in
+    let at-up-to2 = at_both in
+    let at-up-to = at-up-to2 in
     let args = at-up-to.args in
     c.both.ensures
     ∙ ap (λ (b : Bool). b && ltb args.c args.r) (at_both.both-inside.ensures ∙ ap₂ ◌&&◌ at-up-to.up_to.ensures at-up-to2.up_to-2.ensures)

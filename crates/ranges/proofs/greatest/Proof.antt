@@ -18,7 +18,7 @@ returns-2 : tie.Need-returns-in-Prices
 returns-2 c =
     let args = c.args in
     let g = c.greatest_price in
-    λ z. ap (λ y. between (pos 0) y z) (back w32 g.result g.ok ∙ g.ensures) ∙ ap (λ w. in_range args.rules w z)
+    λ z. ap (λ y. between (pos 0) y z) (back w32 g.result g.type_inv ∙ g.ensures) ∙ ap (λ w. in_range args.rules w z)
     (sym c.in-Prices.is)
 
 pub greatest_spec : {M : Type 1} → statement M

@@ -10,10 +10,10 @@ use Rattle.ranges.proofs.number_in_range.Tie as tie
 
 returns : tie.Need-returns
 returns c =
-    let start = c.before.before in
+    let start = c in
     let g = c.greatest in
     let z = start.args.z in
-    c.in_range.ensures ∙ ap₂ (between (pos 0)) (back w32 g.result g.ok) (back w32 z start.fits.z.sfits) ∙ g.ensures z
+    c.in_range.ensures ∙ ap₂ (between (pos 0)) (back w32 g.result g.type_inv) (back w32 z start.ranges.z.sfits) ∙ g.ensures z
 
 pub number_in_range_spec : {M : Type 1} → statement M
 number_in_range_spec = tie.close (tie.spec

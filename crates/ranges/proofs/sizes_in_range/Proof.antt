@@ -10,8 +10,8 @@ use Rattle.ranges.proofs.sizes_in_range.Tie as tie
 returns : tie.Need-returns-in-Bipartite
 returns c =
     let up-to2 = c.up_to-in-Bipartite in
-    let at-up-to = c.before.before.before in
-    let at-enum-told = at-up-to.before in
+    let at-up-to = c in
+    let at-enum-told = at-up-to in
     let s = at-enum-told.args.s in
     c.both-in-Bipartite.ensures
     ∙ ap (λ (b : Bool). b && leb s.edges 1024) (c.both.ensures ∙ ap₂ ◌&&◌ at-up-to.up_to.ensures up-to2.ensures)
@@ -19,8 +19,8 @@ returns c =
 
 returns-2 : tie.Need-returns-in-General
 returns-2 c =
-    let at-up-to3 = c.before.before.before in
-    let at-enum-told2 = at-up-to3.before in
+    let at-up-to3 = c in
+    let at-enum-told2 = at-up-to3 in
     let s = at-enum-told2.args.s in
     c.both-in-General-2.ensures
     ∙ ap (λ (b : Bool). b && leb s.edges 1024) (c.both-in-General.ensures ∙ ap (λ (b : Bool). b && eqb s.columns s.rows) at-up-to3.up_to-in-General.ensures)

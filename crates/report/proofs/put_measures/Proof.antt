@@ -7,16 +7,16 @@ use Rattle.report.proofs.put_measures.Tie as tie
 
 returns : tie.Need-returns-then-out-lt-LINE_BYTES
 returns c =
-    let at-clear-bytes = c.before.before.before in
-    let s = at-clear-bytes.before.before.before in
+    let at-clear-bytes = c in
+    let s = at-clear-bytes in
     no_room 256 (measured_line s.args.m) s.args.out.now at-clear-bytes.clear_bytes.ensures c.if-out-lt-LINE_BYTES.true
 
 returns-2 : tie.Need-returns
 returns-2 c =
     let put-measured-line = c.put_measured_line in
-    let at-if1 = c.before.before.before.before in
-    let at-clear-bytes = at-if1.before.before.before in
-    let s = at-clear-bytes.before.before.before in
+    let at-if1 = c in
+    let at-clear-bytes = at-if1 in
+    let s = at-clear-bytes in
     text_composed 256 (measured_line s.args.m) s.args.out.now at-clear-bytes.clear_bytes.ensures at-if1.if-out-lt-LINE_BYTES.false put-measured-line.ensures
 
 pub put_measures_spec : {M : Type 1} → statement M

@@ -6,8 +6,8 @@ use Rattle.report.proofs.put_named.Tie as tie
 
 returns : tie.Need-returns
 returns c =
-    let b = c.before.before.before.before.before.before in
-    let s = b.before.before.before.before in
+    let b = c in
+    let s = b in
     named_put s.args.name.now s.args.z s.ranges.z s.requires b.put_bytes-a.ensures c.put_signed.ensures
 
 pub put_named_spec : {M : Type 1} → statement M

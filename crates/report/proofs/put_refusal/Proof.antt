@@ -8,26 +8,26 @@ use Rattle.report.proofs.put_refusal.Tie as tie
 
 same_length : tie.Need-shape_of-out
 same_length c =
-    let file = c.before.before in
-    let inside = file.before.before.before.before in
-    let place = inside.before.before.before.before.before in
-    let at = place.before.before.before.before in
-    let number = at.before.before.before.before.before in
-    let first = number.before.before.before.before in
+    let file = c in
+    let inside = file in
+    let place = inside in
+    let at = place in
+    let number = at in
+    let first = number in
     simp length-set
     (file.put_source_name-at.auto.out ∙ inside.put_bytes-at-3.auto.out ∙ place.put_decimal-at-2.auto.out ∙ at.put_bytes-at-2.auto.out ∙ number.put_decimal-at.auto.out
     ∙ first.put_bytes-at.auto.out)
 
 returns : tie.Need-returns
 returns c =
-    let file = c.before.before in
-    let inside = file.before.before.before.before in
-    let place = inside.before.before.before.before.before in
-    let at = place.before.before.before.before in
-    let number = at.before.before.before.before.before in
-    let first = number.before.before.before.before in
-    let numbered = first.before.before.before in
-    let s = numbered.before.before in
+    let file = c in
+    let inside = file in
+    let place = inside in
+    let at = place in
+    let number = at in
+    let first = number in
+    let numbered = first in
+    let s = numbered in
     refusal_put s.args.source s.args.refusal.fault s.args.refusal.place numbered.number-number.result s.requires numbered.number-number.ensures
     first.put_bytes-at.ensures
     number.put_decimal-at.ensures
@@ -42,13 +42,10 @@ put_refusal_spec =
     (tie.spec
     (λ c κs. search rules)
     (λ c. search rules)
-    (λ c. search rules)
     (λ c κs. search rules)
     (λ c κs. search rules)
-    (λ c. search rules)
     (λ c κs. search rules)
     (λ c κs. search rules)
-    (λ c. search rules)
     (λ c κs. search rules)
     (λ c κs. search rules)
     (λ c. search rules)

@@ -7,17 +7,17 @@ use Rattle.report.proofs.put_refused.Tie as tie
 
 returns : tie.Need-returns-then-out-lt-LINE_BYTES
 returns c =
-    let at-clear-bytes = c.before.before.before in
-    let s = at-clear-bytes.before.before.before in
+    let at-clear-bytes = c in
+    let s = at-clear-bytes in
     no_room 256 (refused_line s.args.source s.args.refusal.fault s.args.refusal.place) s.args.out.now
     at-clear-bytes.clear_bytes.ensures c.if-out-lt-LINE_BYTES.true
 
 returns-2 : tie.Need-returns
 returns-2 c =
     let put-refusal = c.put_refusal in
-    let at-if1 = c.before.before.before.before in
-    let at-clear-bytes = at-if1.before.before.before in
-    let s = at-clear-bytes.before.before.before in
+    let at-if1 = c in
+    let at-clear-bytes = at-if1 in
+    let s = at-clear-bytes in
     text_composed 256 (refused_line s.args.source s.args.refusal.fault s.args.refusal.place) s.args.out.now
     at-clear-bytes.clear_bytes.ensures at-if1.if-out-lt-LINE_BYTES.false put-refusal.ensures
 

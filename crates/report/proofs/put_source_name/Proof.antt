@@ -27,23 +27,17 @@ put_source_name_spec =
     tie.close
     (tie.spec
     (λ c. search rules)
-    (λ c. search rules)
     (λ c κs. search rules)
     (λ c. search rules)
     (λ c. search rules)
-    (λ c κs. search rules)
     (λ c. search rules)
     (λ c. search rules)
-    (λ c κs. search rules)
     (λ c. search rules)
     (λ c. search rules)
-    (λ c κs. search rules)
     (λ c. search rules)
     (λ c. search rules)
-    (λ c κs. search rules)
     (λ c. search rules)
     (λ c. search rules)
-    (λ c κs. search rules)
     (λ c. search rules)
     returns
     (λ c. search rules)

@@ -48,23 +48,23 @@ Read = tie.After-natural_at-e invariant-loop decreases-loop
 
 edge_in : (c : Read) → c.natural_at-e.result < (begun c.before).args.s.edges
 edge_in c =
-    let turn = c.before in
-    let start = begun turn in
+    let turn = c in
+    let start = begun turn.before in
     let inv = turn.loop-k.invariant in
-    let at = inv.0 start.pre.1.1 in
-    omega (arith, c.natural_at-e.ensures, Column.edge_in start.pre.0 start.pre.1.1 at.1 inv.1 at.0 (before-stop turn))
+    let at = inv.0 start.requires.1.1 in
+    omega (arith, c.natural_at-e.ensures, Column.edge_in start.requires.0 start.requires.1.1 at.1 inv.1 at.0 (before-stop turn.before))
 
 end_low : (c : tie.After-ends_at-ends invariant-loop decreases-loop) → c.ends_at-ends.result.first < most_vertices
 end_low c =
-    let turn = c.before.before in
-    let start = begun turn in
+    let turn = c in
+    let start = begun turn.before.before in
     let inv = turn.loop-k.invariant in
-    let at = inv.0 start.pre.1.1 in
+    let at = inv.0 start.requires.1.1 in
     let edge = c.natural_at-e.ensures in
     omega (
       arith,
-      Column.end-in start.pre.0 start.pre.1.1 at.1 inv.1 at.0 (before-stop turn) edge c.ends_at-ends.ensures.0,
-      few start.pre.0,
+      Column.end_in start.requires.0 start.requires.1.1 at.1 inv.1 at.0 (before-stop turn.before.before) edge c.ends_at-ends.ensures.0,
+      few start.requires.0,
     )
 
 cast-u : tie.Need-overflow_cast-u invariant-loop decreases-loop
@@ -87,7 +87,7 @@ cast-natural-at c = omega arith
 natural-at-requires : tie.Need-natural_at-e-requires invariant-loop decreases-loop
 natural-at-requires c κs =
     let pre = c.requires in
-    omega (arith, c.loop-k-test.true, Column.stop-in pre.1.0.2 c.list_of-p.ensures.1, pre.1.0.0)
+    omega (arith, c.loop-k-test.true, Column.stop_in pre.1.0.2 c.list_of-p.ensures.1, pre.1.0.0)
 
 cast-at : tie.Need-overflow_cast-at invariant-loop decreases-loop
 cast-at c = omega arith
@@ -103,19 +103,19 @@ value-at-requires c κs =
 
 add-h : tie.Need-overflow_add-h invariant-loop decreases-loop
 add-h c =
-    let turn = c.before.before.before in
-    let start = begun turn in
+    let turn = c in
+    let start = begun turn.before.before.before in
     let inv = turn.loop-k.invariant in
-    let at = inv.0 start.pre.1.1 in
+    let at = inv.0 start.requires.1.1 in
     let edge = c.natural_at-e.ensures in
     let raised = c.value_at.ensures in
-    omega (arith, Column.raised-small start.pre.0 start.pre.1.1 at.1 inv.1 at.0 (before-stop turn) edge raised, start.pre.1.0.1)
+    omega (arith, Column.raised_small start.requires.0 start.requires.1.1 at.1 inv.1 at.0 (before-stop turn.before.before.before) edge raised, start.requires.1.0.1)
 
 mul-h : tie.Need-offset_bounds-price-w invariant-loop decreases-loop
 mul-h c = omega (arith, end_low c.before)
 
 element-copy-out-h : tie.Need-bounds-price-w invariant-loop decreases-loop
-element-copy-out-h c = omega (arith, end_low c.before)
+element-copy-out-h c = omega (arith, end_low c.before.before)
 
 mul-h-2 : tie.Need-offset_bounds-price-u invariant-loop decreases-loop
 mul-h-2 c = omega (arith, c.requires.1.0.2.inside)
@@ -125,55 +125,55 @@ element-copy-out-h-2 c = omega (arith, c.requires.1.0.2.inside)
 
 add-h-2 : tie.Need-overflow_add-h-in-loop-k invariant-loop decreases-loop
 add-h-2 c =
-    let turn = c.before.before.before.before.before in
-    let start = begun turn in
+    let turn = c in
+    let start = begun turn.before.before.before.before.before.before in
     let inv = turn.loop-k.invariant in
-    let at = inv.0 start.pre.1.1 in
+    let at = inv.0 start.requires.1.1 in
     let edge = c.natural_at-e.ensures in
     let end = c.ends_at-ends.ensures.0 in
-    omega (arith, Column.ends-small start.pre.0 start.pre.1.1 at.1 inv.1 at.0 (before-stop turn) edge end)
+    omega (arith, Column.ends_small start.requires.0 start.requires.1.1 at.1 inv.1 at.0 (before-stop turn.before.before.before.before.before.before) edge end)
 
 sub-h : tie.Need-overflow_sub-h invariant-loop decreases-loop
 sub-h c =
-    let turn = c.before.before.before.before.before in
-    let start = begun turn in
+    let turn = c in
+    let start = begun turn.before.before.before.before.before.before in
     let inv = turn.loop-k.invariant in
-    let at = inv.0 start.pre.1.1 in
+    let at = inv.0 start.requires.1.1 in
     let edge = c.natural_at-e.ensures in
     let end = c.ends_at-ends.ensures.0 in
     let raised = c.value_at.ensures in
-    omega (arith, Column.ends-fit start.pre.0 start.pre.1.1 at.1 inv.1 at.0 (before-stop turn) edge end raised)
+    omega (arith, Column.ends_fit start.requires.0 start.requires.1.1 at.1 inv.1 at.0 (before-stop turn.before.before.before.before.before.before) edge end raised)
 
 look-back-requires : tie.Need-look_back-f-requires invariant-loop decreases-loop
 look-back-requires c κs =
-    let at-value-at = c.before.before.before.before.before in
-    let at-ends-at = at-value-at.before in
-    let at-natural-at = at-ends-at.before in
-    let turn = at-natural-at.before in
-    let start = begun turn in
+    let at-value-at = c in
+    let at-ends-at = at-value-at in
+    let at-natural-at = at-ends-at in
+    let turn = at-natural-at in
+    let start = begun turn.before.before.before.before.before.before.before.before.before in
     let inv = turn.loop-k.invariant in
-    let at = inv.0 start.pre.1.1 in
+    let at = inv.0 start.requires.1.1 in
     let edge = at-natural-at.natural_at-e.ensures in
     let end = at-ends-at.ends_at-ends.ensures.0 in
     let raised = at-value-at.value_at.ensures in
-    let few-now = Looking.roomy start.pre.0 at.1 in (
-      (end_low at-ends-at, few-now, omega (arith, Column.raised-small start.pre.0 start.pre.1.1 at.1 inv.1 at.0 (before-stop turn) edge raised, start.pre.1.0.1)),
-      Column.may-lose start.pre.0 start.pre.1.1 at.1 inv.1 at.0 (before-stop turn) edge end,
+    let few-now = Looking.roomy start.requires.0 at.1 in (
+      (end_low at-ends-at.before.before.before.before.before.before.before, few-now, omega (arith, Column.raised_small start.requires.0 start.requires.1.1 at.1 inv.1 at.0 (before-stop turn.before.before.before.before.before.before.before.before.before) edge raised, start.requires.1.0.1)),
+      Column.may_lose start.requires.0 start.requires.1.1 at.1 inv.1 at.0 (before-stop turn.before.before.before.before.before.before.before.before.before) edge end,
     )
 
 add-k : tie.Need-overflow_add-k invariant-loop decreases-loop
 add-k c =
-    let turn = c.before.before.before.before.before.before.before.before.before in
-    let pre = (begun turn).requires in
-    omega (arith, turn.loop-k-test.true, Column.stop-in pre.1.0.2 turn.list_of-p.ensures.1, small pre.0)
+    let turn = c in
+    let pre = (begun turn.before.before.before.before.before.before.before.before.before.before).requires in
+    omega (arith, turn.loop-k-test.true, Column.stop_in pre.1.0.2 turn.list_of-p.ensures.1, small pre.0)
 
 loop-less : tie.Need-loop-k-smaller invariant-loop decreases-loop
 loop-less c = omega (arith, c.loop-k-test.true)
 
 loop-again : tie.Need-loop-k-preserved invariant-loop decreases-loop
 loop-again c =
-    let turn = c.before.before.before.before.before.before.before.before.before in
-    let start = begun turn in
+    let turn = c in
+    let start = begun turn.before.before.before.before.before.before.before.before.before.before in
     let inv = turn.loop-k.invariant in
     let edge = c.natural_at-e.ensures in
     let end = c.ends_at-ends.ensures.0 in
@@ -182,7 +182,7 @@ loop-again c =
     let same = stays reached in (
       (λ h.
           let at = inv.0 h in
-          (omega (arith, at.0), Column.turned start.pre.0 h at.1 inv.1 at.0 (before-stop turn) edge end raised refl reached)),
+          (omega (arith, at.0), Column.turned start.requires.0 h at.1 inv.1 at.0 (before-stop turn.before.before.before.before.before.before.before.before.before.before) edge end raised refl reached)),
       (same.0 ∙ inv.1.0, same.1 ∙ inv.1.1),
     )
 

@@ -12,7 +12,7 @@ element-copy-out-used : tie.Need-bounds-used-root
 element-copy-out-used c = search rules
 
 add-used : tie.Need-overflow_add-used
-add-used c = omega (arith, c.requires.0.root-few)
+add-used c = omega (arith, c.requires.0.root_few)
 
 element-write-used : tie.Need-bounds-used-root-2
 element-write-used c = search rules

@@ -94,20 +94,20 @@ exits : (c : Start) → Exits (graph c) (leasts (table c)) (mosts (table c)) c.a
 exits c = Exits.exits (net c) (good c) (known c).between.degrees (rooted c)
 
 near-exits : (c : Start) → (v : ℕ) → v < c.args.s.rows → v ≢ root c → exit c v ≡ near_exit (price c v) (used c v) (leasts (table c) v)
-near-exits c = Exits.exit-near c.args.s.rows (price c) (used c) (leasts (table c)) (mosts (table c)) (root c)
+near-exits c = Exits.exit_near c.args.s.rows (price c) (used c) (leasts (table c)) (mosts (table c)) (root c)
 
 far-exits : (c : Start) → (v : ℕ) → c.args.s.rows ≤ v → exit c v ≡ far_exit (price c v) (used c v) (mosts (table c) v)
-far-exits c v l = Exits.exit-far c.args.s.rows (price c) (used c) (leasts (table c)) (mosts (table c)) (root c) v l (λ e. omega (arith, e, (rooted c).near))
+far-exits c v l = Exits.exit_far c.args.s.rows (price c) (used c) (leasts (table c)) (mosts (table c)) (root c) v l (λ e. omega (arith, e, (rooted c).near))
 
 gains : (c : Start) → (v : ℕ) → c.args.s.rows ≤ v → v < vertices (graph c) → used c v < mosts (table c) v → price c v ≤ level
-gains c = Exits.may-gain (net c) (good c) (known c).between.degrees (rooted c)
+gains c = Exits.may_gain (net c) (good c) (known c).between.degrees (rooted c)
 
 -- A turn of the outer loop: what it keeps of the vertex settled last.
 abbrev Turn : Type 0
 Turn = tie.At-search invariant-loop decreases-loop invariant-search decreases-search
 
 abbrev begun : Turn → Start
-begun c = c.before.before.before.before.before.before.before.before.before.before
+begun c = c.before.before.before.before.before.before.before.before.before.before.before.before.before.before
 
 vertex-in : (c : Turn) → c.search.f.vertex < vertices_in (begun c).args.s
 vertex-in c = last_in c.search.invariant.0.state
@@ -117,7 +117,7 @@ abbrev Scanned : Type 0
 Scanned = tie.After-scan_column-f invariant-loop decreases-loop invariant-search decreases-search
 
 abbrev turn : Scanned → Turn
-turn c = c.before.before.before.before.before
+turn c = c.before.before.before.before
 
 same-vertex : (c : Scanned) → c.scan_column-f.result.vertex < vertices_in (begun (turn c)).args.s
 same-vertex c = omega (arith, c.scan_column-f.ensures.1.0, vertex-in (turn c))
@@ -130,15 +130,15 @@ abbrev Inside : Type 0
 Inside = tie.In-loop-k invariant-loop decreases-loop invariant-search decreases-search
 
 abbrev entered : Inside → Start
-entered c = begun (turn c.before.before.before.before.before.before.before.before.before)
+entered c = begun (turn c.before.before.before.before.before.before.before.before.before.before.before)
 
 abbrev looped : tie.At-loop-k invariant-loop decreases-loop invariant-search decreases-search → Start
-looped c = begun (turn c.before.before.before.before.before.before.before.before)
+looped c = begun (turn c.before.before.before.before.before.before.before.before.before.before)
 
 place-low : (c : Inside) → c.loop-k.k < most_edges
 place-low c =
     let start = entered c in
-    Growth.place-low (given start) (known start) (far-exits start) (gains start) c.loop-k.invariant.0 c.loop-k-test.true
+    Growth.place_low (given start) (known start) (far-exits start) (gains start) c.loop-k.invariant.0 c.loop-k-test.true
 
 edge_in : (c : Inside) → edges (arc (entered c)) c.loop-k.k < length (entered c).args.chosen.now
 edge_in c =
@@ -150,7 +150,7 @@ abbrev Out : Type 0
 Out = tie.Left-loop-k invariant-loop decreases-loop invariant-search decreases-search
 
 abbrev left : Out → Scanned
-left c = c.before.before.before.before.before.before.before.before.before
+left c = c.before.before.before.before.before.before.before.before.before.before.before
 
 left_at : (c : Out) →
     let start = begun (turn (left c)) in
@@ -165,9 +165,9 @@ left_at c =
     ⊎_elim
     (λ w.
     let turned = Growth.turned (given start) (known start) (far-exits start) (gains start) r w.0.taken w.9.ensures in
-    (Growth.left_as w.12 w.13 w.14 w.15 w.16 (Growth.ends-early turned w.11.taken), ap (λ (z : Tree). z.end) w.15 ∙ inv.1))
+    (Growth.left_as w.12 w.13 w.14 w.15 w.16 (Growth.ends_early turned w.11.taken), ap (λ (z : Tree). z.end) w.15 ∙ inv.1))
     (λ w.
-    let all = Growth.looked-all (given start) (known start) (far-exits start) (gains start) r (rooted start).near (exits start) (omega (arith, w.0.left)) in (
+    let all = Growth.looked_all (given start) (known start) (far-exits start) (gains start) r (rooted start).near (exits start) (omega (arith, w.0.left)) in (
       Growth.left_as w.6 w.7 w.8 w.9 w.10 (Growth.ends_last (net start) r w.3.ensures all w.5.taken),
       ap (λ (z : Tree). z.end) w.9 ∙ inv.1,
     ))
@@ -177,60 +177,60 @@ element-copy-out-root : tie.Need-bounds-order-0 invariant-loop decreases-loop in
 element-copy-out-root c = omega arith
 
 cast-at : tie.Need-overflow_cast-at invariant-loop decreases-loop invariant-search decreases-search
-cast-at c = omega (arith, root-low c.before.before.before.before)
+cast-at c = omega (arith, root-low c.before.before.before.before.before)
 
 mul-root-exit : tie.Need-offset_bounds-price-at invariant-loop decreases-loop invariant-search decreases-search
-mul-root-exit c = omega (arith, root-low c.before.before.before.before)
+mul-root-exit c = omega (arith, root-low c.before.before.before.before.before)
 
 element-copy-out-root-exit : tie.Need-bounds-price-at invariant-loop decreases-loop invariant-search decreases-search
-element-copy-out-root-exit c = omega (arith, root-low c.before.before.before.before)
+element-copy-out-root-exit c = omega (arith, root-low c.before.before.before.before.before.before)
 
 mul-root-exit-2 : tie.Need-offset_bounds-used-at invariant-loop decreases-loop invariant-search decreases-search
-mul-root-exit-2 c = omega (arith, root-low c.before.before.before.before.before)
+mul-root-exit-2 c = omega (arith, root-low c.before.before.before.before.before.before.before)
 
 element-copy-out-root-exit-2 : tie.Need-bounds-used-at invariant-loop decreases-loop invariant-search decreases-search
-element-copy-out-root-exit-2 c = omega (arith, root-low c.before.before.before.before.before)
+element-copy-out-root-exit-2 c = omega (arith, root-low c.before.before.before.before.before.before.before.before)
 
 add-root-exit : tie.Need-overflow_add-at invariant-loop decreases-loop invariant-search decreases-search
-add-root-exit c = omega (arith, root-low c.before.before.before.before.before.before)
+add-root-exit c = omega (arith, root-low c.before.before.before.before.before.before.before.before.before)
 
 mul-root-exit-3 : tie.Need-offset_bounds-table-at invariant-loop decreases-loop invariant-search decreases-search
-mul-root-exit-3 c = omega (arith, root-low c.before.before.before.before.before.before)
+mul-root-exit-3 c = omega (arith, root-low c.before.before.before.before.before.before.before.before.before)
 
 element-copy-out-root-exit-3 : tie.Need-bounds-table-at invariant-loop decreases-loop invariant-search decreases-search
-element-copy-out-root-exit-3 c = omega (arith, root-low c.before.before.before.before.before.before)
+element-copy-out-root-exit-3 c = omega (arith, root-low c.before.before.before.before.before.before.before.before.before.before)
 
 root-exit-requires : tie.Need-root_exit-exit-requires invariant-loop decreases-loop invariant-search decreases-search
 root-exit-requires c κs =
-    let start = c.before.before.before.before.before.before.before in
-    (Exits.root-price (net start) (good start) (known start).between.degrees (rooted start), omega (arith, (good start).high _ (root_in start)))
+    let start = c in
+    (Exits.root_price (net start.before.before.before.before.before.before.before.before.before.before.before) (good start.before.before.before.before.before.before.before.before.before.before.before) (known start.before.before.before.before.before.before.before.before.before.before.before).between.degrees (rooted start.before.before.before.before.before.before.before.before.before.before.before), omega (arith, (good start.before.before.before.before.before.before.before.before.before.before.before).high _ (root_in start.before.before.before.before.before.before.before.before.before.before.before)))
 
 mul-distance : tie.Need-offset_bounds-distance-at invariant-loop decreases-loop invariant-search decreases-search
-mul-distance c = omega (arith, root-low c.before.before.before.before.before.before.before.before)
+mul-distance c = omega (arith, root-low c.before.before.before.before.before.before.before.before.before.before.before.before)
 
 array-write-distance : tie.Need-bounds-distance-at invariant-loop decreases-loop invariant-search decreases-search
-array-write-distance c = omega (arith, root-low c.before.before.before.before.before.before.before.before)
+array-write-distance c = omega (arith, root-low c.before.before.before.before.before.before.before.before.before.before.before.before)
 
 search-holds : tie.Need-search-init invariant-loop decreases-loop invariant-search decreases-search
 search-holds c =
-    let at-root-exit = c.before in
-    let start = at-root-exit.before.before.before.before.before.before.before.before in
+    let at-root-exit = c in
+    let start = at-root-exit in
     let goal = at-root-exit.root_exit-exit.ensures in
-    let own = Exits.exit_own start.args.s.rows (price start) (used start) (leasts (table start)) (mosts (table start)) (root start) in
+    let own = Exits.exit_own start.args.s.rows (price start.before.before.before.before.before.before.before.before.before.before.before.before.before) (used start.before.before.before.before.before.before.before.before.before.before.before.before.before) (leasts (table start.before.before.before.before.before.before.before.before.before.before.before.before.before)) (mosts (table start.before.before.before.before.before.before.before.before.before.before.before.before.before)) (root start.before.before.before.before.before.before.before.before.before.before.before.before.before) in
     let made = c.unlabelled-t.ensures in (
-      Growth.begun (net start) (rooted start).near (ap length made.0 ∙ length-replicate {A = ℕ} most_vertices 0) start.requires.1.1.1.1 (goal.0 ∙ sym own) goal.1,
+      Growth.begun (net start.before.before.before.before.before.before.before.before.before.before.before.before.before) (rooted start.before.before.before.before.before.before.before.before.before.before.before.before.before).near (ap length made.0 ∙ length-replicate {A = ℕ} most_vertices 0) start.requires.1.1.1.1 (goal.0 ∙ sym own) goal.1,
       made.1,
     )
 
 scan-column-requires : tie.Need-scan_column-f-requires invariant-loop decreases-loop invariant-search decreases-search
 scan-column-requires c κs =
-    let at-search = c.before.before.before.before in
-    let start = begun at-search in
+    let at-search = c in
+    let start = begun at-search.before.before.before in
     let s = at-search.search.invariant.0 in (
       net start,
       (
-        ((given start).room, Growth.near-far (given start) (known start) (near-exits start) s, spanned (given start) (known start).between (vertex-in at-search)),
-        Growth.column-scan (given start) (known start) (near-exits start) s,
+        ((given start).room, Growth.near_far (given start) (known start) (near-exits start) s, spanned (given start) (known start).between (vertex-in at-search.before.before.before)),
+        Growth.column_scan (given start) (known start) (near-exits start) s,
       ),
     )
 
@@ -241,51 +241,51 @@ mul-base : tie.Need-offset_bounds-price-u invariant-loop decreases-loop invarian
 mul-base c = omega (arith, vertex-low c.before)
 
 element-copy-out-base : tie.Need-bounds-price-u invariant-loop decreases-loop invariant-search decreases-search
-element-copy-out-base c = omega (arith, vertex-low c.before)
+element-copy-out-base c = omega (arith, vertex-low c.before.before)
 
 add-base : tie.Need-overflow_add-base invariant-loop decreases-loop invariant-search decreases-search
 add-base c =
-    let at-scan = c.before.before.before in
-    let at-search = turn at-scan in
+    let at-scan = c in
+    let at-search = turn at-scan.before.before.before.before in
     let start = begun at-search in
     let s = at-search.search.inv.0 in
     omega (
       arith,
       at-scan.scan_column-f.ensures.1.1,
-      Growth.near-far (given start) (known start) (near-exits start) s,
-      (good start).high _ (same-vertex at-scan),
+      Growth.near_far (given start) (known start) (near-exits start) s,
+      (good start).high _ (same-vertex at-scan.before.before.before.before),
     )
 
 cast-pick : tie.Need-overflow_cast-s invariant-loop decreases-loop invariant-search decreases-search
 cast-pick c =
-    let start = c.before.before.before.before.before.before.before.before.before.before.before.before.before.before.before.before.before.before.before in
-    omega (arith, (net start).passed.sound.sizes.rows.greatest)
+    let start = c in
+    omega (arith, (net start.before.before.before.before.before.before.before.before.before.before.before.before.before.before.before.before.before.before.before.before.before.before.before).passed.sound.sizes.rows.greatest)
 
 add-pick : tie.Need-overflow_add-u invariant-loop decreases-loop invariant-search decreases-search
-add-pick c = omega (arith, vertex-low c.before.before.before.before)
+add-pick c = omega (arith, vertex-low c.before.before.before.before.before)
 
 mul-pick : tie.Need-offset_bounds-table-u invariant-loop decreases-loop invariant-search decreases-search
-mul-pick c = omega (arith, vertex-low c.before.before.before.before)
+mul-pick c = omega (arith, vertex-low c.before.before.before.before.before)
 
 element-copy-out-pick : tie.Need-bounds-table-u invariant-loop decreases-loop invariant-search decreases-search
-element-copy-out-pick c = omega (arith, vertex-low c.before.before.before.before)
+element-copy-out-pick c = omega (arith, vertex-low c.before.before.before.before.before.before)
 
 mul-k : tie.Need-offset_bounds-table-u-in-search invariant-loop decreases-loop invariant-search decreases-search
-mul-k c = omega (arith, vertex-low c.before.before.before.before.before.before)
+mul-k c = omega (arith, vertex-low c.before.before.before.before.before.before.before.before)
 
 element-copy-out-k : tie.Need-bounds-table-u-in-search invariant-loop decreases-loop invariant-search decreases-search
-element-copy-out-k c = omega (arith, vertex-low c.before.before.before.before.before.before)
+element-copy-out-k c = omega (arith, vertex-low c.before.before.before.before.before.before.before.before)
 
 loop-holds : tie.Need-loop-k-init invariant-loop decreases-loop invariant-search decreases-search
-unfolding Growth.column-scan
+unfolding Growth.column_scan
 loop-holds c =
-    let at-scan = c.before.before.before.before.before.before.before in
-    let at-search = turn at-scan in
+    let at-scan = c in
+    let at-search = turn at-scan.before.before.before.before.before.before.before.before.before in
     let start = begun at-search in
     let inv = at-search.search.inv in
     let after = at-scan.scan_column-f.ensures in
-    let s = after.0 (Growth.column-scan (given start) (known start) (near-exits start) inv.0) in
-    (Growth.row-begun {v = at-search.search.f.vertex} (given start) (known start) after.1.0 s c.pick-last.ensures, inv.1)
+    let s = after.0 (Growth.column_scan (given start) (known start) (near-exits start) inv.0) in
+    (Growth.row_begun {v = at-search.search.f.vertex} (given start) (known start) after.1.0 s c.pick-last.ensures, inv.1)
 
 cast-at-2 : tie.Need-overflow_cast-at-in-loop-k invariant-loop decreases-loop invariant-search decreases-search
 cast-at-2 c = omega arith
@@ -316,17 +316,17 @@ element-copy-out-look-2 c = omega (arith, place-low c.before.before.before.befor
 
 cast-look : tie.Need-overflow_cast-e invariant-loop decreases-loop invariant-search decreases-search
 cast-look c =
-    let inside = c.before.before.before.before.before.before.before in
-    let start = entered inside in
-    omega (arith, edge_in inside, (good start).long, small (net start))
+    let inside = c in
+    let start = entered inside.before.before.before.before.before.before.before in
+    omega (arith, edge_in inside.before.before.before.before.before.before.before, (good start).long, small (net start))
 
 shared-slice-read-look : tie.Need-bounds-chosen-e invariant-loop decreases-loop invariant-search decreases-search
 shared-slice-read-look c = edge_in c.before.before.before.before.before.before.before.before
 
 look-requires : tie.Need-look-f-requires invariant-loop decreases-loop invariant-search decreases-search
 look-requires c κs =
-    let inside = c.before.before.before.before.before.before.before.before in
-    let start = entered inside in
+    let inside = c in
+    let start = entered inside.before.before.before.before.before.before.before.before in
     let r = inside.loop-k.invariant.0 in
     let l = inside.loop-k-test.true in
     ((Growth.head_in (given start) (known start) (far-exits start) (gains start) r l, roomy (net start) r.scan), Growth.lookable (given start) (known start) (far-exits start) (gains start) r l)
@@ -339,115 +339,115 @@ loop-less c = omega (arith, c.loop-k-test.true)
 
 loop-again : tie.Need-loop-k-preserved invariant-loop decreases-loop invariant-search decreases-search
 loop-again c =
-    let at-look = c.before.before in
-    let inside = at-look.before.before.before.before.before.before.before.before.before in
-    let start = entered inside in
+    let at-look = c in
+    let inside = at-look in
+    let start = entered inside.before.before.before.before.before.before.before.before.before.before.before in
     let inv = inside.loop-k.invariant in
     (Growth.turned (given start) (known start) (far-exits start) (gains start) inv.0 inside.loop-k-test.true at-look.look-f.ensures, inv.1)
 
 nearest-requires : tie.Need-nearest-at-requires invariant-loop decreases-loop invariant-search decreases-search
 nearest-requires c κs =
-    let at-loop = c.before.before.before in
-    let start = looped at-loop in
-    Growth.searchable (net start) at-loop.loop.invariant.0
+    let at-loop = c in
+    let start = looped at-loop.before.before in
+    Growth.searchable (net start) at-loop.loop-k.invariant.0
 
 settle-requires : tie.Need-settle-v-requires invariant-loop decreases-loop invariant-search decreases-search
 settle-requires c κs =
-    let at-if2 = c.before in
-    let at-nearest = at-if2.before.before in
-    let at-loop = at-nearest.before.before.before.before in
-    let start = looped at-loop in
-    let r = at-loop.loop.invariant.0 in
+    let at-if2 = c in
+    let at-nearest = at-if2 in
+    let at-loop = at-nearest in
+    let start = looped at-loop.before.before.before.before.before.before in
+    let r = at-loop.loop-k.invariant.0 in
     let n = at-nearest.nearest-at.ensures in
     let ne = at-if2.if-at-f.false in
-    (Growth.open-low (net start) r n ne, Growth.count_low (net start) r n ne)
+    (Growth.open_low (net start) r n ne, Growth.count_low (net start) r n ne)
 
 add-count : tie.Need-overflow_add-count invariant-loop decreases-loop invariant-search decreases-search
 add-count c =
-    let at-if2 = c.before.before in
-    let at-nearest = at-if2.before.before in
-    let at-loop = at-nearest.before.before.before.before in
-    let start = looped at-loop in
-    omega (arith, Growth.count_low (net start) at-loop.loop.invariant.0 at-nearest.nearest-at.ensures at-if2.if-at-f.false)
+    let at-if2 = c in
+    let at-nearest = at-if2 in
+    let at-loop = at-nearest in
+    let start = looped at-loop.before.before.before.before.before.before.before in
+    omega (arith, Growth.count_low (net start) at-loop.loop-k.invariant.0 at-nearest.nearest-at.ensures at-if2.if-at-f.false)
 
 cast-settled : tie.Need-overflow_cast-v invariant-loop decreases-loop invariant-search decreases-search
 cast-settled c =
-    let at-if2 = c.before.before in
-    let at-nearest = at-if2.before.before in
-    let at-loop = at-nearest.before.before.before.before in
-    let start = looped at-loop in
-    omega (arith, few (net start), Growth.next-in (net start) at-loop.loop.invariant.0 at-nearest.nearest-at.ensures at-if2.if-at-f.false c.settle-v.ensures)
+    let at-if2 = c in
+    let at-nearest = at-if2 in
+    let at-loop = at-nearest in
+    let start = looped at-loop.before.before.before.before.before.before.before in
+    omega (arith, few (net start), Growth.next-in (net start) at-loop.loop-k.invariant.0 at-nearest.nearest-at.ensures at-if2.if-at-f.false c.settle-v.ensures)
 
 mul-settled : tie.Need-offset_bounds-distance-v invariant-loop decreases-loop invariant-search decreases-search
 mul-settled c =
-    let at-if2 = c.before.before in
-    let at-nearest = at-if2.before.before in
-    let at-loop = at-nearest.before.before.before.before in
-    let start = looped at-loop in
-    omega (arith, few (net start), Growth.next-in (net start) at-loop.loop.invariant.0 at-nearest.nearest-at.ensures at-if2.if-at-f.false c.settle-v.ensures)
+    let at-if2 = c in
+    let at-nearest = at-if2 in
+    let at-loop = at-nearest in
+    let start = looped at-loop.before.before.before.before.before.before.before in
+    omega (arith, few (net start), Growth.next-in (net start) at-loop.loop-k.invariant.0 at-nearest.nearest-at.ensures at-if2.if-at-f.false c.settle-v.ensures)
 
 array-read-settled : tie.Need-bounds-distance-v invariant-loop decreases-loop invariant-search decreases-search
 array-read-settled c =
-    let at-if2 = c.before.before in
-    let at-nearest = at-if2.before.before in
-    let at-loop = at-nearest.before.before.before.before in
-    let start = looped at-loop in
-    omega (arith, few (net start), Growth.next-in (net start) at-loop.loop.invariant.0 at-nearest.nearest-at.ensures at-if2.if-at-f.false c.settle-v.ensures)
+    let at-if2 = c in
+    let at-nearest = at-if2 in
+    let at-loop = at-nearest in
+    let start = looped at-loop.before.before.before.before.before.before.before in
+    omega (arith, few (net start), Growth.next-in (net start) at-loop.loop-k.invariant.0 at-nearest.nearest-at.ensures at-if2.if-at-f.false c.settle-v.ensures)
 
 search-less : tie.Need-search-smaller invariant-loop decreases-loop invariant-search decreases-search
 search-less c =
-    let at-if2 = c.before.before.before in
-    let at-nearest = at-if2.before.before in
-    let at-loop = at-nearest.before.before.before.before in
-    let start = looped at-loop in
-    omega (arith, Growth.count_less (net start) at-loop.loop.invariant.0 at-nearest.nearest-at.ensures at-if2.if-at-f.false)
+    let at-if2 = c in
+    let at-nearest = at-if2 in
+    let at-loop = at-nearest in
+    let start = looped at-loop.before.before.before.before.before.before.before.before in
+    omega (arith, Growth.count_less (net start) at-loop.loop-k.invariant.0 at-nearest.nearest-at.ensures at-if2.if-at-f.false)
 
 search-again : tie.Need-search-preserved invariant-loop decreases-loop invariant-search decreases-search
 search-again c =
-    let at-settle = c.before in
-    let at-if2 = at-settle.before.before in
-    let at-nearest = at-if2.before.before in
-    let at-loop-test = at-nearest.before.before.before in
-    let at-loop = at-loop-test.before in
-    let start = looped at-loop in
-    let inv = at-loop.loop.invariant in
+    let at-settle = c in
+    let at-if2 = at-settle in
+    let at-nearest = at-if2 in
+    let at-loop-test = at-nearest in
+    let at-loop = at-loop-test in
+    let start = looped at-loop.before.before.before.before.before.before.before.before in
+    let inv = at-loop.loop-k.invariant in
     let r = inv.0 in
-    let all = Growth.looked-all (given start) (known start) (far-exits start) (gains start) r (rooted start).near (exits start) (omega (arith, at-loop-test.loop-test.false)) in
+    let all = Growth.looked_all (given start) (known start) (far-exits start) (gains start) r (rooted start).near (exits start) (omega (arith, at-loop-test.loop-k-test.false)) in
     let s = Growth.grown (net start) r at-nearest.nearest-at.ensures at-if2.if-at-f.false at-settle.settle-v.ensures all in
-    (Growth.front-as c.settled-f.ensures s, inv.1)
+    (Growth.front_as c.settled-f.ensures s, inv.1)
 
 returns : tie.Need-returns-then-f-eq-FAR invariant-loop decreases-loop invariant-search decreases-search
 returns c =
-    let at_out = c.before.before in
-    let start = begun (turn (left at_out)) in
-    let out = left_at at_out in
-    let arrays = start.pre.1.1.1 in (
+    let at_out = c in
+    let start = begun (turn (left at_out.before.before)) in
+    let out = left_at at_out.before.before in
+    let arrays = start.requires.1.1.1 in (
       record {
         found = λ l. absurd (omega (arith, l, out.1));
         none = λ l. Growth.stuck (net start) (good start) (rooted start).near (exits start) out.0.leaving c.if-f-eq-FAR.true;
       },
-      (arrays.0, out.0.order-long),
+      (arrays.0, out.0.order_long),
     )
 
 move-prices-requires : tie.Need-move_prices-requires invariant-loop decreases-loop invariant-search decreases-search
 move-prices-requires c κs =
-    let at-if3 = c.before.before.before in
-    let at_out = at-if3.before.before in
-    let start = begun (turn (left at_out)) in
-    let out = left_at at_out in
-    (Growth.movable (net start) (good start) (rooted start).near (exits start) out.0.leaving at-if3.if3.false, start.pre.1.1.1.0)
+    let at-if3 = c in
+    let at_out = at-if3 in
+    let start = begun (turn (left at_out.before.before.before.before)) in
+    let out = left_at at_out.before.before.before.before in
+    (Growth.movable (net start) (good start) (rooted start).near (exits start) out.0.leaving at-if3.if-f-eq-FAR.false, start.requires.1.1.1.0)
 
 returns-2 : tie.Need-returns invariant-loop decreases-loop invariant-search decreases-search
 returns-2 c =
-    let at-move-prices = c.before in
-    let at-if3 = at-move-prices.before.before.before.before in
-    let at_out = at-if3.before.before in
-    let start = begun (turn (left at_out)) in
-    let out = left_at at_out in
+    let at-move-prices = c in
+    let at-if3 = at-move-prices in
+    let at_out = at-if3 in
+    let start = begun (turn (left at_out.before.before.before.before.before.before)) in
+    let out = left_at at_out.before.before.before.before.before.before in
     let moved = at-move-prices.move_prices.ensures in
-    let ended = Growth.ended (net start) (good start) (rooted start).near (exits start) out.0.leaving at-if3.if3.false moved.0 in (
+    let ended = Growth.ended (net start) (good start) (rooted start).near (exits start) out.0.leaving at-if3.if-f-eq-FAR.false moved.0 in (
       record { found = λ l. ended; none = λ l. absurd (omega (arith, l, ended.inside, few (net start))) },
-      (moved.1, out.0.order-long),
+      (moved.1, out.0.order_long),
     )
 
 pub find_end_spec : {M : Type 1} → statement M

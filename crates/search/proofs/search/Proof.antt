@@ -16,7 +16,7 @@ find-end-requires c κs =
     let between = start.requires.1.0 in
     let rooted = start.requires.1.1.0 in
     let arrays = start.requires.1.1.1 in
-    (given, (record { place = _; between = between }, (rooted, (arrays.price-long, arrays.order-long))))
+    (given, (record { place = _; between = between }, (rooted, (arrays.price_long, arrays.order_long))))
 
 returns : tie.Need-returns-then-end-ge-MOST_VERTICES
 returns c =
@@ -24,7 +24,7 @@ returns c =
     let arrays = start.requires.1.1.1 in
     let end = c.find_end-t.ensures in (
       record { found = λ e. absurd (false≢true e); none = λ e. end.0.none c.if-end-ge-MOST_VERTICES.true },
-      record { price_long = end.1.0; used_long = arrays.used-long; place_long = arrays.place-long; order_long = end.1.1 },
+      record { price_long = end.1.0; used_long = arrays.used_long; place_long = arrays.place_long; order_long = end.1.1 },
     )
 
 list-of-requires : tie.Need-list_of-p-requires
@@ -38,40 +38,40 @@ list-of-requires c κs =
 
 augment-requires : tie.Need-augment-requires
 augment-requires c κs =
-    let at-list-of = c.before.before.before.before.before in
-    let at-if1 = at-list-of.before.before in
-    let at-find-end = at-if1.before in
+    let at-list-of = c in
+    let at-if1 = at-list-of in
+    let at-find-end = at-if1 in
     let start = at-find-end in
     let given = start.requires.0 in
     let between = start.requires.1.0 in
     let arrays = start.requires.1.1.1 in
-    let ended = at-find-end.find-end.ensures.0.found at-if1.if1.false in
-    (ranked given.net ended, relistable _ _ given between ended arrays.place-long at-list-of.list_of.ensures.1)
+    let ended = at-find-end.find_end-t.ensures.0.found at-if1.if-end-ge-MOST_VERTICES.false in
+    (ranked given.net ended, relistable _ _ given between ended arrays.place_long at-list-of.list_of-p.ensures.1)
 
 count-path-requires : tie.Need-count_path-requires
 count-path-requires c κs =
-    let at-if1 = c.before.before.before.before.before.before.before.before.before.before.before.before in
-    let at-find-end = at-if1.before in
+    let at-if1 = c in
+    let at-find-end = at-if1 in
     let start = at-find-end in
     let given = start.requires.0 in
     let between = start.requires.1.0 in
     let rooted = start.requires.1.1.0 in
     let arrays = start.requires.1.1.1 in
-    let ended = at-find-end.find-end.ensures.0.found at-if1.if1.false in
-    (countable given.net between ended rooted.room, arrays.used-long)
+    let ended = at-find-end.find_end-t.ensures.0.found at-if1.if-end-ge-MOST_VERTICES.false in
+    (countable given.net between ended rooted.room, arrays.used_long)
 
 returns-2 : tie.Need-returns
 returns-2 c =
-    let at-augment = c.before.before.before.before.before in
-    let at-if1 = at-augment.before.before.before.before.before.before.before.before in
-    let at-find-end = at-if1.before in
+    let at-augment = c in
+    let at-if1 = at-augment in
+    let at-find-end = at-if1 in
     let start = at-find-end in
     let given = start.requires.0 in
     let between = start.requires.1.0 in
     let rooted = start.requires.1.1.0 in
-    let ended = at-find-end.find-end.ensures.0.found at-if1.if1.false in
+    let ended = at-find-end.find_end-t.ensures.0.found at-if1.if-end-ge-MOST_VERTICES.false in
     let net = given.net in
-    let end = at-find-end.find-end.ensures.1 in
+    let end = at-find-end.find_end-t.ensures.1 in
     let flipped = at-augment.augment.ensures in
     let counted = c.count_path.ensures in
     let path = walked net ended flipped.0 in

@@ -16,8 +16,8 @@ use Rattle.sets.proofs.bound_inside.Tie as tie
 returns : tie.Need-returns-then-is_inside
 returns c =
     let if1 = c.if-is_inside in
-    let at-is-inside = c.before.before.before in
-    let start = at-is-inside.before.before in
+    let at-is-inside = c in
+    let start = at-is-inside in
     let a = start.args in
     let p = start.requires.1 in
     let z = get_or a.bound.now a.v (pos 0) in

@@ -31,7 +31,7 @@ bound-inside-requires c κs =
 add_total : tie.Need-overflow_add-total invariant-loop decreases-loop
 add_total c =
     let inv = c.loop-v.invariant in
-    let at-vertex-count = c.before.before.before in
+    let at-vertex-count = c in
     let pre = at-vertex-count.requires in
     omega (arith, inv.small, c.bound_inside-total.ensures.1, at-vertex-count.vertex_count-n.ensures, pre.0.1)
 
@@ -43,7 +43,7 @@ loop-again c =
 returns : tie.Need-returns invariant-loop decreases-loop
 returns c =
     let vertex-count = c.vertex_count-n in
-    let start = c.before.before.before.before in
+    let start = c in
     let a = start.args in
     let n = vertex-count.ensures in
     let w = summed_all c.loop-v.invariant c.loop-v-test.false in

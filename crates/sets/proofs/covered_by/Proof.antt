@@ -37,8 +37,8 @@ ends-of-requires c κs =
 
 mark-covered-requires : tie.Need-mark_covered-total-requires invariant-loop decreases-loop
 mark-covered-requires c κs =
-    let at-loop = c.before.before.before.before.before in
-    let start = at-loop.before.before.before.before.before.before in
+    let at-loop = c in
+    let start = at-loop in
     let p = start.requires.0 in
     let l : at-loop.loop-e.e < start.args.s.edges = omega (arith, p.1.long) in
     let w = ends_within p.0 l c.ends_of-ends.ensures in
@@ -46,15 +46,15 @@ mark-covered-requires c κs =
 
 add_total : tie.Need-overflow_add-total invariant-loop decreases-loop
 add_total c =
-    let at-loop = c.before.before.before.before.before.before in
+    let at-loop = c in
     let p = at-loop.requires.0 in
     omega (arith, at-loop.loop-e.invariant.small, c.mark_covered-total.ensures.1, p.0.sizes.few, p.1.long)
 
 loop-again : tie.Need-loop-e-preserved invariant-loop decreases-loop
 loop-again c =
     let ends_of = c.ends_of-ends in
-    let at-loop = c.before.before.before.before.before.before in
-    let S = at-loop.before.before.before.before.before.before in
+    let at-loop = c in
+    let S = at-loop in
     let m = c.mark_covered-total.ensures in
     let L = at-loop.loop-e in
     let w = covers_at S.args.insides.now S.args.markings.now S.args.k L.e ends_of.ensures in

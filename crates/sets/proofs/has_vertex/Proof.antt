@@ -26,8 +26,8 @@ is-inside-requires c κs =
 returns : tie.Need-returns-then-is_inside invariant-loop decreases-loop
 returns c =
     let loop-test = c.loop-v-test in
-    let at-loop = c.before.before.before in
-    let at-vertex-count = at-loop.before in
+    let at-loop = c in
+    let at-vertex-count = at-loop in
     let a = at-vertex-count.args in
     unseen_seen at-loop.loop-v.invariant loop-test.true (sym c.is_inside.ensures ∙ c.if-is_inside.true)
     ∙ ap (λ n. some? n (is_inside a.insides.now a.k)) at-vertex-count.vertex_count-n.ensures

@@ -17,28 +17,28 @@ O c = odd_sets_of c.args.insides.now c.args.markings.now
 
 returns : tie.Need-returns-then-not-nothing_above
 returns c =
-    let s = c.before.before.before.before.before.before in
+    let s = c in
     let a = c.nothing_above in
-    above_breaks (g s) (O s) s.args.k s.args.load (sym a.ensures ∙ not-true a.result c.if-not-nothing_above.true)
+    above_breaks (g s.before.before.before.before.before.before) (O s.before.before.before.before.before.before) s.args.k s.args.load (sym a.ensures ∙ not-true a.result c.if-not-nothing_above.true)
 
 returns-2 : tie.Need-returns-then-not-has_vertex
 returns-2 c =
     let if1 = c.if-not-nothing_above in
-    let s = c.before.before.before.before.before.before.before.before in
+    let s = c in
     let a = c.nothing_above in
     let v = c.has_vertex in
-    vertex_breaks (g s) (O s) s.args.k s.args.load (sym a.ensures ∙ not-false a.result if1.false)
+    vertex_breaks (g s.before.before.before.before.before.before.before.before) (O s.before.before.before.before.before.before.before.before) s.args.k s.args.load (sym a.ensures ∙ not-false a.result if1.false)
     (sym v.ensures ∙ not-true v.result c.if-not-has_vertex.true)
 
 returns-3 : tie.Need-returns
 returns-3 c =
     let if2 = c.if-not-has_vertex in
-    let at-if1 = c.before.before.before.before in
-    let s = at-if1.before.before.before.before.before.before in
+    let at-if1 = c in
+    let s = at-if1 in
     let a = at-if1.nothing_above in
     let v = c.has_vertex in
     c.both.ensures
-    ∙ ends_decide (g s) (O s) s.args.k s.args.load (sym a.ensures ∙ not-false a.result at-if1.if-not-nothing_above.false)
+    ∙ ends_decide (g s.before.before.before.before.before.before.before.before.before.before) (O s.before.before.before.before.before.before.before.before.before.before) s.args.k s.args.load (sym a.ensures ∙ not-false a.result at-if1.if-not-nothing_above.false)
     (sym v.ensures ∙ not-false v.result if2.false) (sym c.one_end_inside-one_end.ensures)
 
 pub keeps_rules_spec : {M : Type 1} → statement M

@@ -31,13 +31,13 @@ is-allowed-requires c κs =
 
 loop-again : tie.Need-loop-k-preserved invariant-loop decreases-loop
 loop-again c =
-    let at-loop = c.before.before.before in
+    let at-loop = c in
     let up_to_lem = at-loop.at_most_sets-count in
     kept_more at-loop.loop-k.invariant (omega (arith, up_to_lem.ensures)) (sym c.is_allowed.ensures ∙ c.if-is_allowed.true)
 
 returns : tie.Need-returns-else-is_allowed invariant-loop decreases-loop
 returns c =
-    let at-loop = c.before.before.before in
+    let at-loop = c in
     let up_to_lem = at-loop.at_most_sets-count in
     kept_broken at-loop.loop-k.invariant (omega (arith, up_to_lem.ensures)) (sym c.is_allowed.ensures ∙ c.if-is_allowed.false)
 

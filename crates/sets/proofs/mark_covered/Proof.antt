@@ -18,7 +18,7 @@ returns c =
 returns-2 : tie.Need-returns
 returns-2 c =
     let if1 = c.if-mark-eq0 in
-    let start = c.before.before.before.before.before in
+    let start = c in
     let a = start.args in
     let n = one (covers_by a.insides.now a.markings.now a.k a.e a.ends.first a.ends.second) in
     let e : a.mark ≡ 1 = omega (arith, start.requires.0.3, if1.false) in

@@ -42,16 +42,16 @@ edge-keeps-requires c κs =
 loop-again : tie.Need-loop-e-preserved invariant-loop decreases-loop
 loop-again c =
     let ends_of = c.ends_of in
-    let at-loop = c.before.before.before.before.before.before in
-    let S = at-loop.before.before.before.before.before in
+    let at-loop = c in
+    let S = at-loop in
     let k = keeps-at S.args.insides.now S.args.markings.now S.args.k at-loop.loop-e.e ends_of.ensures c.edge_keeps.ensures in
     unseen_more at-loop.loop-e.invariant (omega (arith, S.requires.0.row_long)) (ap not (sym k ∙ c.if-edge_keeps.true))
 
 returns : tie.Need-returns-else-edge_keeps invariant-loop decreases-loop
 returns c =
     let ends_of = c.ends_of in
-    let at-loop = c.before.before.before.before.before.before in
-    let S = at-loop.before.before.before.before.before in
+    let at-loop = c in
+    let S = at-loop in
     let k = keeps-at S.args.insides.now S.args.markings.now S.args.k at-loop.loop-e.e ends_of.ensures c.edge_keeps.ensures in
     ap not (unseen_seen at-loop.loop-e.invariant (omega (arith, S.requires.0.row_long)) (ap not (sym k ∙ c.if-edge_keeps.false)))
 

@@ -14,10 +14,10 @@ one_more u e f = e ∙ ap (λ (b : Bool). b && u) f
 
 returns : tie.Need-returns
 returns c =
-    let at-both2 = c.before.before.before.before in
-    let at_both = at-both2.before.before in
-    let at-index-numbers = at_both.before.before in
-    let at-vertex-count = at-index-numbers.before.before in
+    let at-both2 = c in
+    let at_both = at-both2 in
+    let at-index-numbers = at_both in
+    let at-vertex-count = at-index-numbers in
     let a = at-vertex-count.args in
     let marks = at_both.both-marks.ensures ∙ ap (λ i. eqb a.index i && eqb a.outputs.chosen a.s.edges) at-index-numbers.index_numbers.ensures in
     let vertices = at-both2.both.ensures ∙ ap (λ k. at_both.both-marks.result && eqb a.outputs.vertex k) at-vertex-count.vertex_count-n.ensures in

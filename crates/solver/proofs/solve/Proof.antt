@@ -19,19 +19,19 @@ abbrev graph : tie.Start → Graph
 graph c = graph_of c.args.s c.args.row.now c.args.column.now c.args.weight.now
 
 abbrev lent : tie.Start → Lent
-lent c = let a = c.args in lent_of (length a.chosen.now) (length a.vertex-price.now) (length a.edge-price.now) (length a.workspace.now)
+lent c = let a = c.args in lent_of (length a.chosen.now) (length a.vertex_price.now) (length a.edge_price.now) (length a.workspace.now)
 
 returns : tie.Need-returns-in-Refused
 returns c =
-    let at-clear-integers3 = c.before.before in
-    let at-clear-integers2 = at-clear-integers3.before.before.before in
-    let at-clear-integers = at-clear-integers2.before.before.before in
-    let at-clear-bytes = at-clear-integers.before.before.before.before in
-    let at-tested = at-clear-bytes.before.before in
-    let start = at-tested.before.before.before.before.before in
+    let at-clear-integers3 = c in
+    let at-clear-integers2 = at-clear-integers3 in
+    let at-clear-integers = at-clear-integers2 in
+    let at-clear-bytes = at-clear-integers in
+    let at-tested = at-clear-bytes in
+    let start = at-tested in
     let says = sym (ap check_says c.in-Refused.is) ∙ at-tested.tested-check.ensures in (
       ap told says,
-      left-zero start.args.index.now (lent start) says (record {
+      left-zero start.args.index.now (lent start.before.before.before.before.before.before.before.before.before.before.before.before.before.before.before.before.before.before.before) says (record {
         marks = at-clear-bytes.clear_bytes.ensures;
         vertices = at-clear-integers.clear_integers.ensures;
         edges = at-clear-integers2.clear_integers-2.ensures;
@@ -40,16 +40,16 @@ returns c =
 
 optimise-requires : tie.Need-optimise-requires
 optimise-requires c κs =
-    let at-enum-told = c.before.before.before.before in
-    let at-clear-integers3 = at-enum-told.before.before in
-    let at-clear-integers2 = at-clear-integers3.before.before.before in
-    let at-clear-integers = at-clear-integers2.before.before.before in
-    let at-clear-bytes = at-clear-integers.before.before.before.before in
-    let at-tested = at-clear-bytes.before.before in
-    let start = at-tested.before.before.before.before.before in
-    let g = graph start in
+    let at-enum-told = c in
+    let at-clear-integers3 = at-enum-told in
+    let at-clear-integers2 = at-clear-integers3 in
+    let at-clear-integers = at-clear-integers2 in
+    let at-clear-bytes = at-clear-integers in
+    let at-tested = at-clear-bytes in
+    let start = at-tested in
+    let g = graph start.before.before.before.before.before.before.before.before.before.before.before.before.before.before.before.before.before.before.before.before.before.before.before in
     let index = start.args.index.now in
-    let P = solve-passed g start.args.bound.now index (lent start) (sym at-tested.tested-check.ensures ∙ ap check_says at-enum-told.in_default.is) in (
+    let P = solve-passed g start.args.bound.now index (lent start.before.before.before.before.before.before.before.before.before.before.before.before.before.before.before.before.before.before.before.before.before.before.before) (sym at-tested.tested-check.ensures ∙ ap check_says at-enum-told.in_default.is) in (
       record { bipartite = P.bipartite; passed = P.passed },
       (
         index_given g index P.passed.sound P.index_long P.index_passes,
@@ -69,21 +69,21 @@ optimise-requires c κs =
 
 returns-2 : tie.Need-returns
 returns-2 c =
-    let at-clear-integers4 = c.before in
-    let at-optimise = at-clear-integers4.before.before.before.before.before.before.before in
-    let at-enum-told = at-optimise.before.before.before.before.before in
-    let at-clear-integers3 = at-enum-told.before.before in
-    let at-clear-integers2 = at-clear-integers3.before.before.before in
-    let at-clear-integers = at-clear-integers2.before.before.before in
-    let at-clear-bytes = at-clear-integers.before.before.before.before in
-    let at-tested = at-clear-bytes.before.before in
-    let start = at-tested.before.before.before.before.before in
+    let at-clear-integers4 = c in
+    let at-optimise = at-clear-integers4 in
+    let at-enum-told = at-optimise in
+    let at-clear-integers3 = at-enum-told in
+    let at-clear-integers2 = at-clear-integers3 in
+    let at-clear-integers = at-clear-integers2 in
+    let at-clear-bytes = at-clear-integers in
+    let at-tested = at-clear-bytes in
+    let start = at-tested in
     let says = sym at-tested.tested-check.ensures ∙ ap check_says at-enum-told.in_default.is in
     let optimise = at-optimise.optimise in
     let kept = optimise.auto.1.1.1.1.1.1 in
     let workspace = kept.1.1.1.0 ∙ at-clear-integers3.clear_integers-3.auto.out in (
       ap told (sym says),
-      left-solved start.args.index.now (lent start) says optimise.ensures
+      left-solved start.args.index.now (lent start.before.before.before.before.before.before.before.before.before.before.before.before.before.before.before.before.before.before.before.before.before.before.before.before.before.before.before.before.before.before.before.before) says optimise.ensures
           (kept.0 ∙ at-clear-bytes.clear_bytes.auto.out)
           (kept.1.0 ∙ at-clear-integers.clear_integers.auto.out)
           (kept.1.1.0 ∙ at-clear-integers2.clear_integers-2.auto.out)

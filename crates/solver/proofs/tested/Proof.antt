@@ -18,25 +18,25 @@ begun c = c.before.before.before.before
 
 returns : tie.Need-returns-in-Refused
 returns c =
-    let tests = c.before in
-    let m = tests.before in
-    let s = begun m in
+    let tests = c in
+    let m = tests in
+    let s = begun m.before.before in
     first_refused (graph s) s.args.bound.now s.args.index.now (lent s) m.outputs_match-others.ensures tests.check_bipartite.ensures
     c.in-Refused.is
 
 check-places-requires : tie.Need-check_places-last-requires
 check-places-requires c κs =
-    let tests = c.before in
-    let m = tests.before in
-    let s = begun m in
+    let tests = c in
+    let m = tests in
+    let s = begun m.before.before in
     indexable (graph s) s.args.bound.now s.args.index.now (lent s) m.outputs_match-others.ensures tests.check_bipartite.ensures
     c.in_default.is
 
 returns-2 : tie.Need-returns
 returns-2 c =
-    let tests = c.before.before in
-    let m = tests.before in
-    let s = begun m in
+    let tests = c in
+    let m = tests in
+    let s = begun m.before.before.before in
     index_last (graph s) s.args.bound.now s.args.index.now (lent s) m.outputs_match-others.ensures tests.check_bipartite.ensures
     c.in_default.is c.check_places-last.ensures
 

@@ -8,14 +8,14 @@ use Rattle.subgraph_reader.proofs.check_inputs.Tie as tie
 
 returns : tie.Need-returns-in-Refused
 returns c =
-    let at-check-lent = c.before in
+    let at-check-lent = c in
     let args = at-check-lent.args in
     numbers_refused (graph_of args.s args.row.now args.column.now args.weight.now) args.n args.text.now
     at-check-lent.check_lent.ensures c.in-Refused.is
 
 returns-2 : tie.Need-returns-in-Passed
 returns-2 c =
-    let at-check-lent = c.before.before in
+    let at-check-lent = c in
     let args = at-check-lent.args in
     c.check_text.ensures
     ∙ text_left (graph_of args.s args.row.now args.column.now args.weight.now) args.n args.text.now

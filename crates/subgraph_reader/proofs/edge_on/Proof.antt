@@ -14,26 +14,26 @@ two-naturals-in-requires c κs = c.requires.0
 
 returns : tie.Need-returns-in_default
 returns c =
-    let at-two-naturals-in = c.before in
-    let start = at-two-naturals-in.before.before.before.before in
+    let at-two-naturals-in = c in
+    let start = at-two-naturals-in in
     let two = at-two-naturals-in.two_naturals_in.ensures in
     let marks = start.args.chosen.now in
     (λ t k i. edge_bad t (so_far k i marks) two c.in_default.is, tt)
 
 find-edge-requires : tie.Need-find_edge-requires
 find-edge-requires c κs =
-    let start = c.before.before.before.before.before.before.before in
+    let start = c in
     let T = start.requires.1.0 in
     (T.holds.long, cell_flagged T (sym c.ends_in_range.ensures ∙ c.if-ends_in_range.true))
 
 returns-2 : tie.Need-returns-in_default-find_edge
 returns-2 c =
-    let at-find-edge = c.before in
-    let at-if1 = at-find-edge.before in
-    let at-ends-in-range = at-if1.before in
-    let at-r = at-ends-in-range.before in
-    let at-two-naturals-in = at-r.before in
-    let start = at-two-naturals-in.before.before.before.before in
+    let at-find-edge = c in
+    let at-if1 = at-find-edge in
+    let at-ends-in-range = at-if1 in
+    let at-r = at-ends-in-range in
+    let at-two-naturals-in = at-r in
+    let start = at-two-naturals-in in
     let two = at-two-naturals-in.two_naturals_in.ensures in
     let is = at-r.in-Is.is in
     let inside = sym at-ends-in-range.ends_in_range.ensures ∙ at-if1.if-ends_in_range.true in
@@ -42,13 +42,13 @@ returns-2 c =
 
 shared-slice-read-if2 : tie.Need-bounds-chosen-e
 shared-slice-read-if2 c =
-    let at-e = c.before in
-    let at-find-edge = at-e.before in
-    let at-if1 = at-find-edge.before in
-    let at-ends-in-range = at-if1.before in
-    let at-r = at-ends-in-range.before in
-    let at-two-naturals-in = at-r.before in
-    let start = at-two-naturals-in.before.before.before.before in
+    let at-e = c in
+    let at-find-edge = at-e in
+    let at-if1 = at-find-edge in
+    let at-ends-in-range = at-if1 in
+    let at-r = at-ends-in-range in
+    let at-two-naturals-in = at-r in
+    let start = at-two-naturals-in in
     let two = at-two-naturals-in.two_naturals_in.ensures in
     let is = at-r.in-Is.is in
     let inside = sym at-ends-in-range.ends_in_range.ensures ∙ at-if1.if-ends_in_range.true in
@@ -61,13 +61,13 @@ shared-slice-read-if2 c =
 
 returns-3 : tie.Need-returns-then-chosen-e-eq0
 returns-3 c =
-    let at-e = c.before.before in
-    let at-find-edge = at-e.before in
-    let at-if1 = at-find-edge.before in
-    let at-ends-in-range = at-if1.before in
-    let at-r = at-ends-in-range.before in
-    let at-two-naturals-in = at-r.before in
-    let start = at-two-naturals-in.before.before.before.before in
+    let at-e = c in
+    let at-find-edge = at-e in
+    let at-if1 = at-find-edge in
+    let at-ends-in-range = at-if1 in
+    let at-r = at-ends-in-range in
+    let at-two-naturals-in = at-r in
+    let start = at-two-naturals-in in
     let two = at-two-naturals-in.two_naturals_in.ensures in
     let is = at-r.in-Is.is in
     let inside = sym at-ends-in-range.ends_in_range.ensures ∙ at-if1.if-ends_in_range.true in
@@ -80,13 +80,13 @@ returns-3 c =
 
 returns-4 : tie.Need-returns-else-chosen-e-eq0
 returns-4 c =
-    let at-e = c.before.before in
-    let at-find-edge = at-e.before in
-    let at-if1 = at-find-edge.before in
-    let at-ends-in-range = at-if1.before in
-    let at-r = at-ends-in-range.before in
-    let at-two-naturals-in = at-r.before in
-    let start = at-two-naturals-in.before.before.before.before in
+    let at-e = c in
+    let at-find-edge = at-e in
+    let at-if1 = at-find-edge in
+    let at-ends-in-range = at-if1 in
+    let at-r = at-ends-in-range in
+    let at-two-naturals-in = at-r in
+    let start = at-two-naturals-in in
     let two = at-two-naturals-in.two_naturals_in.ensures in
     let is = at-r.in-Is.is in
     let inside = sym at-ends-in-range.ends_in_range.ensures ∙ at-if1.if-ends_in_range.true in
@@ -97,9 +97,9 @@ returns-4 c =
 
 returns-5 : tie.Need-returns-else-ends_in_range
 returns-5 c =
-    let at-r = c.before.before in
-    let at-two-naturals-in = at-r.before in
-    let start = at-two-naturals-in.before.before.before.before in
+    let at-r = c in
+    let at-two-naturals-in = at-r in
+    let start = at-two-naturals-in in
     let two = at-two-naturals-in.two_naturals_in.ensures in
     let is = at-r.in-Is.is in
     let marks = start.args.chosen.now in

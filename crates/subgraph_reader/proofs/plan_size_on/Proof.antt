@@ -15,11 +15,11 @@ returns c =
 
 returns-2 : tie.Need-returns-then-both
 returns-2 c =
-    let at_both = c.before.before.before in
-    let at-if1 = at_both.before.before.before in
-    let at-sizes-in-range = at-if1.before in
-    let at_rows = at-sizes-in-range.before in
-    let at-three-naturals = at_rows.before in
+    let at_both = c in
+    let at-if1 = at_both in
+    let at-sizes-in-range = at-if1 in
+    let at_rows = at-sizes-in-range in
+    let at-three-naturals = at_rows in
     let args = at-three-naturals.args in
     size_does (no_edges args.s) at-three-naturals.three_naturals.ensures at_rows.in-Is.is true true
     (sym at-sizes-in-range.sizes_in_range.ensures ∙ at-if1.if-sizes_in_range.true)
@@ -28,11 +28,11 @@ returns-2 c =
 
 returns-3 : tie.Need-returns-else-both
 returns-3 c =
-    let at_both = c.before.before.before in
-    let at-if1 = at_both.before.before.before in
-    let at-sizes-in-range = at-if1.before in
-    let at_rows = at-sizes-in-range.before in
-    let at-three-naturals = at_rows.before in
+    let at_both = c in
+    let at-if1 = at_both in
+    let at-sizes-in-range = at-if1 in
+    let at_rows = at-sizes-in-range in
+    let at-three-naturals = at_rows in
     let args = at-three-naturals.args in
     size_does (no_edges args.s) at-three-naturals.three_naturals.ensures at_rows.in-Is.is true false
     (sym at-sizes-in-range.sizes_in_range.ensures ∙ at-if1.if-sizes_in_range.true)
@@ -41,8 +41,8 @@ returns-3 c =
 
 returns-4 : tie.Need-returns-else-sizes_in_range
 returns-4 c =
-    let at_rows = c.before.before in
-    let at-three-naturals = at_rows.before in
+    let at_rows = c in
+    let at-three-naturals = at_rows in
     let args = at-three-naturals.args in
     size_does (no_edges args.s) at-three-naturals.three_naturals.ensures at_rows.in-Is.is false _
     (sym c.sizes_in_range.ensures ∙ c.if-sizes_in_range.false) refl

@@ -15,8 +15,8 @@ enum_told c = search rules
 read-subgraph-lines-requires : tie.Need-read_subgraph_lines-requires
 read-subgraph-lines-requires c κs =
     let enum_told = c.in-Passed in
-    let at-check-inputs = c.before.before in
-    let at-clear-bytes = at-check-inputs.before.before.before in
+    let at-check-inputs = c in
+    let at-clear-bytes = at-check-inputs in
     let args = at-clear-bytes.args in
     let P = passed (graph_of args.s args.row.now args.column.now args.weight.now) (length args.chosen.now) args.text.now
     (ap length at-clear-bytes.clear_bytes.ensures ∙ length-replicate (length args.chosen.now) 0) _
@@ -31,8 +31,8 @@ read-subgraph-lines-requires c κs =
 
 returns : tie.Need-returns-in-Refused
 returns c =
-    let at-check-inputs = c.before in
-    let at-clear-bytes = at-check-inputs.before.before.before in
+    let at-check-inputs = c in
+    let at-clear-bytes = at-check-inputs in
     let args = at-clear-bytes.args in
     whole_lent (graph_of args.s args.row.now args.column.now args.weight.now) (length args.chosen.now) args.text.now
     (ap length at-clear-bytes.clear_bytes.ensures ∙ length-replicate (length args.chosen.now) 0) _
@@ -40,10 +40,10 @@ returns c =
 
 returns-2 : tie.Need-returns-in-Read
 returns-2 c =
-    let at-read-subgraph-lines = c.before.before.before in
-    let at-enum-told = at-read-subgraph-lines.before.before in
-    let at-check-inputs = at-enum-told.before in
-    let at-clear-bytes = at-check-inputs.before.before.before in
+    let at-read-subgraph-lines = c in
+    let at-enum-told = at-read-subgraph-lines in
+    let at-check-inputs = at-enum-told in
+    let at-clear-bytes = at-check-inputs in
     let args = at-clear-bytes.args in
     whole_read (graph_of args.s args.row.now args.column.now args.weight.now) (length args.chosen.now) args.text.now
     (ap length at-clear-bytes.clear_bytes.ensures ∙ length-replicate (length args.chosen.now) 0) _
@@ -53,11 +53,11 @@ returns-2 c =
 returns-3 : tie.Need-returns-in-Refused-read_subgraph_lines
 returns-3 c =
     let clear-bytes2 = c.clear_bytes-in-Refused-read_subgraph_lines in
-    let at-r2 = c.before.before.before.before in
-    let at-read-subgraph-lines = at-r2.before.before.before in
-    let at-enum-told = at-read-subgraph-lines.before.before in
-    let at-check-inputs = at-enum-told.before in
-    let at-clear-bytes = at-check-inputs.before.before.before in
+    let at-r2 = c in
+    let at-read-subgraph-lines = at-r2 in
+    let at-enum-told = at-read-subgraph-lines in
+    let at-check-inputs = at-enum-told in
+    let at-clear-bytes = at-check-inputs in
     let args = at-clear-bytes.args in
     whole_refused (graph_of args.s args.row.now args.column.now args.weight.now) (length args.chosen.now) args.text.now
     (ap length at-clear-bytes.clear_bytes.ensures ∙ length-replicate (length args.chosen.now) 0) _

@@ -34,11 +34,11 @@ part-header-kind-end c =
 
 returns : tie.Need-returns-in_default
 returns c =
-    let at-header-kind = c.before.before in
-    let at-start = at-header-kind.before.before.before.before in
+    let at-header-kind = c in
+    let at-start = at-header-kind in
     let at-header-line = at-start in
-    let start = at-header-line.before.before.before.before.before in
-    let g = graph start in
+    let start = at-header-line in
+    let g = graph start.before.before.before.before.before.before.before.before.before.before.before.before in
     read_refused g _
     (header-stops (subgraph_layout New g) at-header-line.header_line.ensures at-start.in-At.is Header
     (header-not g at-header-kind.header_kind.ensures c.in_default.is) c.refused_at.ensures)
@@ -46,12 +46,12 @@ returns c =
 returns-2 : tie.Need-returns-then-not-same_kind
 returns-2 c =
     let same_kind = c.same_kind in
-    let at-kind = c.before.before.before in
-    let at-header-kind = at-kind.before in
-    let at-start = at-header-kind.before.before.before.before in
+    let at-kind = c in
+    let at-header-kind = at-kind in
+    let at-start = at-header-kind in
     let at-header-line = at-start in
-    let start = at-header-line.before.before.before.before.before in
-    let g = graph start in
+    let start = at-header-line in
+    let g = graph start.before.before.before.before.before.before.before.before.before.before.before.before.before.before in
     read_refused g _
     (header-stops (subgraph_layout New g) at-header-line.header_line.ensures at-start.in-At.is Disagreement
     (header-differs g at-header-kind.header_kind.ensures at-kind.in-Is.is same_kind.ensures c.if-not-same_kind.true)
@@ -59,7 +59,7 @@ returns-2 c =
 
 size-line-requires : tie.Need-size_line-requires
 size-line-requires c κs =
-    let at-start = c.before.before.before.before.before.before.before in
+    let at-start = c in
     let header-line = at-start.header_line in
     (opened_line header-line.ensures at-start.in-At.is).reached
 
@@ -81,17 +81,17 @@ part-plan-size-on-end c =
 read-marks-requires : tie.Need-read_marks-requires
 read-marks-requires c κs =
     let count = c.in-Count in
-    let at-plan-size-on = c.before.before in
-    let at-start2 = at-plan-size-on.before.before in
-    let at-size-line = at-start2.before in
-    let at-if1 = at-size-line.before in
-    let at-same-kind = at-if1.before in
-    let at-kind = at-same-kind.before in
-    let at-header-kind = at-kind.before in
-    let at-start = at-header-kind.before.before.before.before in
+    let at-plan-size-on = c in
+    let at-start2 = at-plan-size-on in
+    let at-size-line = at-start2 in
+    let at-if1 = at-size-line in
+    let at-same-kind = at-if1 in
+    let at-kind = at-same-kind in
+    let at-header-kind = at-kind in
+    let at-start = at-header-kind in
     let at-header-line = at-start in
-    let start = at-header-line.before.before.before.before.before in
-    let g = graph start in
+    let start = at-header-line in
+    let g = graph start.before.before.before.before.before.before.before.before.before.before.before.before.before.before.before.before.before.before.before in
     let w = header-goes (subgraph_layout New g) at-header-line.header_line.ensures at-start.in-At.is tt
     (header-agrees g at-header-kind.header_kind.ensures at-kind.in-Is.is at-same-kind.same_kind.ensures at-if1.if-not-same_kind.false) in
     let z = start.requires.1 in (
@@ -103,21 +103,21 @@ read-marks-requires c κs =
 
 returns-3 : tie.Need-returns-in-Refused
 returns-3 c =
-    let at-header-line = c.before in
-    let start = at-header-line.before.before.before.before.before in
-    let g = graph start in read_refused g _ (header_refused (subgraph_layout New g) at-header-line.header_line.ensures c.in-Refused.is)
+    let at-header-line = c in
+    let start = at-header-line in
+    let g = graph start.before.before.before.before.before.before in read_refused g _ (header_refused (subgraph_layout New g) at-header-line.header_line.ensures c.in-Refused.is)
 
 returns-4 : tie.Need-returns-in-Refused-size_line
 returns-4 c =
-    let at-size-line = c.before in
-    let at-if1 = at-size-line.before in
-    let at-same-kind = at-if1.before in
-    let at-kind = at-same-kind.before in
-    let at-header-kind = at-kind.before in
-    let at-start = at-header-kind.before.before.before.before in
+    let at-size-line = c in
+    let at-if1 = at-size-line in
+    let at-same-kind = at-if1 in
+    let at-kind = at-same-kind in
+    let at-header-kind = at-kind in
+    let at-start = at-header-kind in
     let at-header-line = at-start in
-    let start = at-header-line.before.before.before.before.before in
-    let g = graph start in
+    let start = at-header-line in
+    let g = graph start.before.before.before.before.before.before.before.before.before.before.before.before.before.before.before in
     let w = header-goes (subgraph_layout New g) at-header-line.header_line.ensures at-start.in-At.is tt
     (header-agrees g at-header-kind.header_kind.ensures at-kind.in-Is.is at-same-kind.same_kind.ensures at-if1.if-not-same_kind.false) in
     read_refused g _ (size_refused (subgraph_layout New g) w at-size-line.size_line.ensures c.in-Refused-size_line.is)
@@ -125,17 +125,17 @@ returns-4 c =
 returns-5 : tie.Need-returns-in-Refused-plan_size_on
 returns-5 c =
     let fault = c.in-Refused-plan_size_on in
-    let at-plan-size-on = c.before.before in
-    let at-start2 = at-plan-size-on.before.before in
-    let at-size-line = at-start2.before in
-    let at-if1 = at-size-line.before in
-    let at-same-kind = at-if1.before in
-    let at-kind = at-same-kind.before in
-    let at-header-kind = at-kind.before in
-    let at-start = at-header-kind.before.before.before.before in
+    let at-plan-size-on = c in
+    let at-start2 = at-plan-size-on in
+    let at-size-line = at-start2 in
+    let at-if1 = at-size-line in
+    let at-same-kind = at-if1 in
+    let at-kind = at-same-kind in
+    let at-header-kind = at-kind in
+    let at-start = at-header-kind in
     let at-header-line = at-start in
-    let start = at-header-line.before.before.before.before.before in
-    let g = graph start in
+    let start = at-header-line in
+    let g = graph start.before.before.before.before.before.before.before.before.before.before.before.before.before.before.before.before.before.before.before in
     let w = header-goes (subgraph_layout New g) at-header-line.header_line.ensures at-start.in-At.is tt
     (header-agrees g at-header-kind.header_kind.ensures at-kind.in-Is.is at-same-kind.same_kind.ensures at-if1.if-not-same_kind.false) in
     read_refused g _
@@ -153,14 +153,13 @@ read_subgraph_lines_spec =
     sub-header-kind
     part-header-kind-start
     part-header-kind-end
-    (λ c. search rules)
     (λ c κs. search rules)
     (λ c. search rules)
     (λ c. search rules)
     (λ c κs. search rules)
     returns
     (λ c κs. search rules)
-    (λ c κs. search rules)
+    (λ c. search rules)
     returns-2
     size-line-requires
     (λ c. search rules)
@@ -170,7 +169,7 @@ read_subgraph_lines_spec =
     part-plan-size-on-end
     (λ c κs. search rules)
     (λ c. search rules)
-    (λ c κs. search rules)
+    (λ c. search rules)
     (λ c. search rules)
     read-marks-requires
     returns-3

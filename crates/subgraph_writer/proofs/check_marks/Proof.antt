@@ -13,19 +13,19 @@ graph s = graph_of s.args.s s.args.row.now s.args.column.now s.args.weight.now
 
 -- Where the lengths and the graph's numbers have passed.
 left : (c : tie.In_default) →
-    let s = c.before.before.before.before.before.before.before in
-    MarksLeft (graph s) s.args.chosen.now s.args.out
+    let s = c in
+    MarksLeft (graph s.before.before.before.before.before.before.before) s.args.chosen.now s.args.out
 left c =
-    let at_both = c.before.before in
-    let s = at_both.before.before.before.before.before in
-    numbers_passed (graph s) s.args.chosen.now s.args.out at_both.both-others.ensures c.check_lent.ensures c.in_default.is
+    let at_both = c in
+    let s = at_both in
+    numbers_passed (graph s.before.before.before.before.before.before.before) s.args.chosen.now s.args.out at_both.both-others.ensures c.check_lent.ensures c.in_default.is
 
 returns : tie.Need-returns-in-Refused
 returns c =
-    let at-check-lent = c.before in
-    let at_both = at-check-lent.before in
-    let s = at_both.before.before.before.before.before in
-    numbers_refused (graph s) s.args.chosen.now s.args.out at_both.both-others.ensures at-check-lent.check_lent.ensures c.in-Refused.is
+    let at-check-lent = c in
+    let at_both = at-check-lent in
+    let s = at_both in
+    numbers_refused (graph s.before.before.before.before.before.before.before) s.args.chosen.now s.args.out at_both.both-others.ensures at-check-lent.check_lent.ensures c.in-Refused.is
 
 refused-item-requires : tie.Need-refused_item-requires
 refused-item-requires c κs = omega (arith, mark_few (left c.before.before) c.lowest_mark.ensures c.in-At.is)

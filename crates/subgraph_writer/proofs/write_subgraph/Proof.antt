@@ -18,32 +18,32 @@ graph s = graph_of s.args.s s.args.row.now s.args.column.now s.args.weight.now
 returns : tie.Need-returns-in-Refused
 returns c =
     let clear-bytes = c.clear_bytes in
-    let at-r = c.before.before.before.before in
-    let at-check-marks = at-r.before in
-    let s = at-check-marks.before.before.before.before.before in
+    let at-r = c in
+    let at-check-marks = at-r in
+    let s = at-check-marks in
     let n = length s.args.out.now in
-    let w = refused (graph s) s.args.chosen.now n at-check-marks.check_marks.ensures at-r.in-Refused.is in
+    let w = refused (graph s.before.before.before.before.before.before.before.before.before.before) s.args.chosen.now n at-check-marks.check_marks.ensures at-r.in-Refused.is in
     (sym (ap (λ (o : Outcome (List ℕ)). told (reported length o)) w), clear-bytes.ensures ∙ sym (ap (output n 0 (λ t. t)) w))
 
 answer-subgraph-requires : tie.Need-answer_subgraph-requires
 answer-subgraph-requires c κs =
-    let s = c.before.before.before.before.before.before.before in
+    let s = c in
     let n = length s.args.out.now in
     let k = c.check_marks.ensures in
     let p = c.in_default.is in
-    let f = fits (graph s) s.args.chosen.now n k p in
-    (size (graph s) s.args.chosen.now n k p, (f.passed.sound, f.marks))
+    let f = fits (graph s.before.before.before.before.before.before.before) s.args.chosen.now n k p in
+    (size (graph s.before.before.before.before.before.before.before) s.args.chosen.now n k p, (f.passed.sound, f.marks))
 
 returns-2 : tie.Need-returns
 returns-2 c =
     let answer-subgraph = c.answer_subgraph in
-    let s = c.before.before.before.before.before.before.before.before.before.before in
+    let s = c in
     let n = length s.args.out.now in
     let k = c.check_marks.ensures in
     let p = c.in_default.is in
     let w = answer-subgraph.ensures s.args.weight.now in
-    let is = yielded (graph s) s.args.chosen.now n k p in
-    let long = size (graph s) s.args.chosen.now n k p in
+    let is = yielded (graph s.before.before.before.before.before.before.before.before.before.before) s.args.chosen.now n k p in
+    let long = size (graph s.before.before.before.before.before.before.before.before.before.before) s.args.chosen.now n k p in
     (answered is long answer-subgraph.new.0 answer-subgraph.result w, filled_in is long answer-subgraph.new.0 answer-subgraph.result w)
 
 pub write_subgraph_spec : {M : Type 1} → statement M

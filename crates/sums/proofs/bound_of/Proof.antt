@@ -11,7 +11,7 @@ use Rattle.sums.proofs.bound_of.Tie as tie
 
 returns : tie.Need-returns
 returns c =
-    let start = c.before.before in
+    let start = c in
     let a = start.args in
     let z = get_or a.bound.now a.v (pos 0) in
     let e : pos c.natural.result ≡ z = c.natural.ensures.0 ∙ back w32 z c.natural-arg-1.given in

@@ -9,7 +9,7 @@ returns : tie.Need-returns
 returns c =
     let x = c.element in
     let r = c.if_chosen in
-    by_mark r.result x.result _ r.ok x.type_inv x.ensures (omega arith) r.ensures
+    by_mark r.result x.result _ r.type_inv x.type_inv x.ensures (omega arith) r.ensures
 
 pub chosen_weight_spec : {M : Type 1} → statement M
 chosen_weight_spec =

@@ -28,7 +28,7 @@ element-copy-out-excess c = omega (arith, c.requires.0.0)
 
 excess-requires : tie.Need-excess-requires invariant-loop decreases-loop
 excess-requires c κs =
-    let start = c.before.before.before.before in
+    let start = c in
     let p = start.requires in
     let e = c.loop-e.e in
     let l = c.loop-e-test.true in (
@@ -38,15 +38,15 @@ excess-requires c κs =
 
 add-requires : tie.Need-add-total-requires invariant-loop decreases-loop
 add-requires c κs =
-    let at-loop = c.before.before.before in
+    let at-loop = c in
     let pre = at-loop.requires in
     let x = c.excess in addable at-loop.loop-e.invariant x.result pre.0.0 x.type_inv x.ensures.1
 
 loop-again : tie.Need-loop-e-preserved invariant-loop decreases-loop
 loop-again c =
     let excess-arg = c.excess-arg-1 in
-    let at-loop-test = c.before.before.before in
-    let at-loop = at-loop-test.before in
+    let at-loop-test = c in
+    let at-loop = at-loop-test in
     let a = at-loop.args in
     let e = at-loop.loop-e.e in
     let x = c.excess in

@@ -39,8 +39,8 @@ ends-of-requires c κs = let S = c.requires.0 in ends_least S (omega (arith, S.r
 
 own-cover-requires : tie.Need-own_cover-own-requires invariant-loop decreases-loop
 own-cover-requires c κs =
-    let at-loop = c.before.before.before.before in
-    let start = c.before.before.before.before.before.before.before.before.before in
+    let at-loop = c in
+    let start = c in
     let S = start.requires.0 in
     let L = start.requires.1.0 in
     let l : at-loop.loop-e.e < start.args.s.edges = omega (arith, S.row_long) in
@@ -70,16 +70,16 @@ element-set-from-table c =
 loop-again : tie.Need-loop-e-preserved invariant-loop decreases-loop
 loop-again c =
     let ends_of = c.ends_of-ends in
-    let at-loop-test = c.before.before.before.before.before.before in
-    let at-loop = at-loop-test.before in
-    let start = at-loop.before.before.before.before.before in
+    let at-loop-test = c in
+    let at-loop = at-loop-test in
+    let start = at-loop in
     let a = start.args in
     let S = start.requires.0 in
     let L = at-loop.loop-e in
     let x = c.own_cover-own in
     let y = c.set_cover-odd in
     let r = c.add in
-    let P = prices_of a.vertex-price.now a.edge-price.now a.sets a.set-price.now a.insides.now a.markings.now in
+    let P = prices_of a.vertex_price.now a.edge_price.now a.sets a.set_price.now a.insides.now a.markings.now in
     let w = plus x.result y.result r.result x.type_inv y.type_inv x.ensures y.ensures r.ensures in
     fill_more (stored r.result) L.invariant (omega (arith, at-loop-test.loop-e-test.true, L.invariant.long, start.requires.1.1.2, S.row_long, S.sizes.few))
     (stored_both r.result r.type_inv (cover_at P L.e ends_of.ensures w.0) (omega (arith, w.1)))

@@ -38,12 +38,12 @@ said c =
 
 loop-again : tie.Need-loop-e-preserved invariant-loop decreases-loop
 loop-again c =
-    let at-loop-test = c.before.before.before in
+    let at-loop-test = c in
     kept_more at-loop-test.loop-e.invariant at-loop-test.loop-e-test.true (sym (said c.before) ∙ c.if-is_covered.true)
 
 returns : tie.Need-returns-else-is_covered invariant-loop decreases-loop
 returns c =
-    let at-loop-test = c.before.before.before in
+    let at-loop-test = c in
     kept_broken at-loop-test.loop-e.invariant at-loop-test.loop-e-test.true (sym (said c.before) ∙ c.if-is_covered.false)
 
 returns-2 : tie.Need-returns invariant-loop decreases-loop

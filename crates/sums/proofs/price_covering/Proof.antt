@@ -19,7 +19,7 @@ returns c =
     let b = stored_is x.result x.type_inv in
     let w : Within (2 ^ 31) r.result = omega (arith, r.ensures.1, x.ensures.1, ap up b, ap dn b) in
     let m = number.ensures.0 ∙ ap one covers-edge.ensures in
-    stored_both r.result r.ok (r.ensures.0 ∙ ap₂ (λ n (z : ℤ). pos n *ℤ z) m (b ∙ x.ensures.0)) w
+    stored_both r.result r.type_inv (r.ensures.0 ∙ ap₂ (λ n (z : ℤ). pos n *ℤ z) m (b ∙ x.ensures.0)) w
 
 pub price_covering_spec : {M : Type 1} → statement M
 price_covering_spec =

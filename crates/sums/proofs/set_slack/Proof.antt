@@ -34,7 +34,7 @@ array-read-price-of-rest c = omega (arith, c.requires.0.0)
 price-of-rest-requires : tie.Need-price_of_rest-rest-requires invariant-loop decreases-loop
 price-of-rest-requires c κs =
     let loop-test = c.loop-k-test in
-    let at-loop = c.before.before.before in
+    let at-loop = c in
     let pre = at-loop.requires in
     let w = pre.1 at-loop.loop-k.k loop-test.true in
     let x = c.element in
@@ -42,21 +42,21 @@ price-of-rest-requires c κs =
 
 add-requires : tie.Need-add-total-requires invariant-loop decreases-loop
 add-requires c κs =
-    let at-loop = c.before.before.before.before in
+    let at-loop = c in
     let pre = at-loop.requires in
     let x = c.price_of_rest-rest in
     addable at-loop.loop-k.invariant x.result (omega (arith, pre.0.0)) x.type_inv x.ensures.1
 
 loop-again : tie.Need-loop-k-preserved invariant-loop decreases-loop
 loop-again c =
-    let at-capacity = c.before.before.before in
-    let at-loop-test = at-capacity.before in
-    let at-loop = at-loop-test.before in
+    let at-capacity = c in
+    let at-loop-test = at-capacity in
+    let at-loop = at-loop-test in
     let args = at-loop.args in
     let x = c.price_of_rest-rest in
     let r = c.add-total in
     let p = c.element in
-    let used = get_or args.t3 at-loop.loop-k.k 0 in
+    let used = get_or args.covered at-loop.loop-k.k 0 in
     let is = ap₂ (λ (z : ℤ) (n : ℕ). z *ℤ (pos n -ℤ pos used)) (stored_is p.result p.type_inv ∙ p.ensures.0) at-capacity.capacity-most.ensures in
     added at-loop.loop-k.invariant x.result r.result at-loop-test.loop-k-test.true x.type_inv r.type_inv (x.ensures.0 ∙ is, x.ensures.1) r.ensures
 

@@ -28,7 +28,7 @@ bound-price-requires c κs =
 add-requires : tie.Need-add-total-requires invariant-loop decreases-loop
 add-requires c κs =
     let inv = c.loop-v.invariant in
-    let at-vertex-count = c.before.before.before in
+    let at-vertex-count = c in
     let pre = at-vertex-count.requires in
     let x = c.bound_price in addable inv x.result (omega (arith, at-vertex-count.vertex_count-n.ensures, pre.0)) x.type_inv c.bound_price.ensures.1
 

@@ -15,7 +15,7 @@ half-points-requires c κs = let x = c.element-own in stored_within x.result x.t
 
 subtract-requires : tie.Need-subtract-over-requires
 subtract-requires c κs =
-    let start = c.before.before.before in
+    let start = c in
     let z = start.args.cover in
     let x = c.element-own in
     let w = c.half_points-worth in
@@ -26,7 +26,7 @@ subtract-requires c κs =
 
 returns : tie.Need-returns
 returns c =
-    let start = c.before.before.before.before.before.before in
+    let start = c in
     let z = start.args.cover in
     let x = c.element-own in
     let w = c.half_points-worth in
@@ -34,7 +34,7 @@ returns c =
     let r = c.if_chosen in
     let own = worth_is x.result w.result x.type_inv x.ensures w.ensures in
     let over = minus z w.result d.result start.ranges.cover.sfits w.type_inv (refl, start.requires.0) own d.ensures in
-    by_mark r.result d.result _ r.ok d.type_inv over (omega arith) r.ensures
+    by_mark r.result d.result _ r.type_inv d.type_inv over (omega arith) r.ensures
 
 pub excess_spec : {M : Type 1} → statement M
 excess_spec =

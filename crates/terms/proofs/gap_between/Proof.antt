@@ -14,7 +14,7 @@ half-points-requires c κs = stored_within c.args.weight c.ranges.weight.sfits c
 
 subtract-requires : tie.Need-subtract-requires
 subtract-requires c κs =
-    let start = c.before in
+    let start = c in
     let h = c.half_points-worth in
     let a : Within (2 ^ 61) (stored start.args.total) = stored_within start.args.total start.ranges.total.sfits start.requires.0 (omega arith) in
     let b : Within (2 ^ 58) (stored start.args.weight) = stored_within start.args.weight start.ranges.weight.sfits start.requires.1 (omega arith) in
@@ -24,7 +24,7 @@ subtract-requires c κs =
 
 returns : tie.Need-returns
 returns c =
-    let start = c.before.before in
+    let start = c in
     let h = c.half_points-worth in
     let d = c.subtract in
     stored_is d.result d.type_inv

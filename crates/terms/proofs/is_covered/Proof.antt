@@ -13,7 +13,7 @@ half-points-requires c κs = let x = c.element-own in stored_within x.result x.t
 
 returns : tie.Need-returns
 returns c =
-    let start = c.before.before.before in
+    let start = c in
     let x = c.element-own in
     let w = c.half_points-worth in
     c.at_most.ensures

@@ -15,7 +15,7 @@ add-requires c κs = (
 
 add-requires-2 : tie.Need-add-requires-2
 add-requires-2 c κs =
-    let start = c.before in
+    let start = c in
     let u = c.add in
     let w = plus start.args.vertices start.args.odd u.result start.ranges.vertices.sfits start.ranges.odd.sfits (refl, start.requires.0)
     (refl, start.requires.1) u.ensures in (
@@ -25,7 +25,7 @@ add-requires-2 c κs =
 
 returns : tie.Need-returns
 returns c =
-    let start = c.before.before in
+    let start = c in
     let u = c.add in
     let r = c.add-2 in
     let p = plus start.args.vertices start.args.odd u.result start.ranges.vertices.sfits start.ranges.odd.sfits (refl, start.requires.0)

@@ -10,7 +10,7 @@ use Rattle.text.proofs.no_words.Tie as tie
 
 returns : tie.Need-returns
 returns c =
-    let start = c.before.before in
+    let start = c in
     ap (λ (k : ℕ). eqb k (length start.args.line.now)) c.skip_blanks.ensures.0
     ∙ no_words-is start.args.line.now start.args.from start.requires
 

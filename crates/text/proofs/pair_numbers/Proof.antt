@@ -19,7 +19,7 @@ returns c =
 
 last-natural-requires : tie.Need-last_natural-requires
 last-natural-requires c κs =
-    let at-next-natural = c.before in
+    let at-next-natural = c in
     let args = at-next-natural.args in
     (took (natural args.rules) args.line.now (record { at = 0; line = 0 }) (natural-nil args.rules) (search rules) _ _
     (sym (ap next_natural_says c.in-Is.is) ∙ at-next-natural.next_natural.ensures)).inside
@@ -27,8 +27,8 @@ last-natural-requires c κs =
 returns-2 : tie.Need-returns-in_default-last_natural
 returns-2 c =
     let last-natural = c.last_natural in
-    let at_a = c.before.before in
-    let at-next-natural = at_a.before in
+    let at_a = c in
+    let at-next-natural = at_a in
     let args = at-next-natural.args in
     two_last (natural args.rules) (natural args.rules) args.line.now _ _
     (took (natural args.rules) args.line.now (record { at = 0; line = 0 }) (natural-nil args.rules) (search rules) _ _
@@ -37,9 +37,9 @@ returns-2 c =
 
 returns-3 : tie.Need-returns
 returns-3 c =
-    let at-last-natural = c.before in
-    let at_a = at-last-natural.before in
-    let at-next-natural = at_a.before in
+    let at-last-natural = c in
+    let at_a = at-last-natural in
+    let at-next-natural = at_a in
     let args = at-next-natural.args in
     two_last (natural args.rules) (natural args.rules) args.line.now _ _
     (took (natural args.rules) args.line.now (record { at = 0; line = 0 }) (natural-nil args.rules) (search rules) _ _

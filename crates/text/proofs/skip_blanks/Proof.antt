@@ -1,7 +1,6 @@
 -- `text::skip_blanks` meets its contract. The measure is what is left of the slice.
 use Prim.Native.Nat.{◌-◌}
 use mathlib.Core.Path.{refl, sym, ◌∙◌}
-use borrow.Author.Tests.{not-true, not-false}
 use borrow.Author.Rules.{rules}
 use lib.ListN.{length}
 use Rattle.text.proofs.Scans.{Scan, scan_more, scan_stop, scan_end}
@@ -20,15 +19,15 @@ loop-holds c = (search rules, refl)
 
 returns : tie.Need-returns-then-not-is_blank invariant-loop decreases-loop
 returns c =
-    let at-loop-test = c.before.before.before in
+    let at-loop-test = c in
     let inv = at-loop-test.loop-i.invariant in
-    (scan_stop blank _ _ _ inv at-loop-test.loop-i-test.true (sym c.is_blank.ensures ∙ not-true _ c.if-not-is_blank.true), search rules)
+    (scan_stop blank _ _ _ inv at-loop-test.loop-i-test.true (sym c.is_blank.ensures ∙ c.if-not-is_blank.true), search rules)
 
 loop-again : tie.Need-loop-i-preserved invariant-loop decreases-loop
 loop-again c =
-    let at-loop-test = c.before.before.before in
+    let at-loop-test = c in
     let inv = at-loop-test.loop-i.invariant in
-    scan_more blank _ _ _ inv at-loop-test.loop-i-test.true (sym c.is_blank.ensures ∙ not-false _ c.if-not-is_blank.false)
+    scan_more blank _ _ _ inv at-loop-test.loop-i-test.true (sym c.is_blank.ensures ∙ c.if-not-is_blank.false)
 
 returns-2 : tie.Need-returns invariant-loop decreases-loop
 returns-2 c = (scan_end blank _ _ _ c.loop-i.invariant c.loop-i-test.false, search rules)

@@ -15,44 +15,44 @@ returns c =
 
 next-natural-requires-2 : tie.Need-next_natural-requires-2
 next-natural-requires-2 c κs =
-    let first = c.before in
+    let first = c in
     let args = first.args in
     (first_took args.rules (natural args.rules) args.line.now first.next_natural.ensures c.in-Is.is).inside
 
 returns-2 : tie.Need-returns-in_default-next_natural
 returns-2 c =
-    let at_a = c.before.before in
-    let first = at_a.before in
+    let at_a = c in
+    let first = at_a in
     let args = first.args in
     second_spoilt args.rules (natural args.rules) args.line.now first.next_natural.ensures at_a.in-Is.is
     c.next_natural-2.ensures c.in_default-next_natural.is
 
 last-natural-requires : tie.Need-last_natural-requires
 last-natural-requires c κs =
-    let second = c.before in
-    let at_a = second.before in
-    let first = at_a.before in
+    let second = c in
+    let at_a = second in
+    let first = at_a in
     let args = first.args in
     (second_took args.rules (natural args.rules) args.line.now first.next_natural.ensures at_a.in-Is.is
     second.next_natural-2.ensures c.in-Is-next_natural.is).inside
 
 returns-3 : tie.Need-returns-in_default-last_natural
 returns-3 c =
-    let at_b = c.before.before in
-    let second = at_b.before in
-    let at_a = second.before in
-    let first = at_a.before in
+    let at_b = c in
+    let second = at_b in
+    let at_a = second in
+    let first = at_a in
     let args = first.args in
     third_as args.rules (natural args.rules) args.line.now first.next_natural.ensures at_a.in-Is.is
     second.next_natural-2.ensures at_b.in-Is-next_natural.is none (sym (ap natural_says c.in_default-last_natural.is) ∙ c.last_natural.ensures)
 
 returns-4 : tie.Need-returns
 returns-4 c =
-    let third = c.before in
-    let at_b = third.before in
-    let second = at_b.before in
-    let at_a = second.before in
-    let first = at_a.before in
+    let third = c in
+    let at_b = third in
+    let second = at_b in
+    let at_a = second in
+    let first = at_a in
     let args = first.args in
     let read = sym (ap natural_says c.in-Is-last_natural.is) ∙ third.last_natural.ensures in
     third_as args.rules (natural args.rules) args.line.now first.next_natural.ensures at_a.in-Is.is

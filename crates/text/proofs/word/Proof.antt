@@ -7,7 +7,7 @@ use Rattle.text.proofs.word.Tie as tie
 returns : tie.Need-returns
 returns c =
     let word-end = c.word_end-end in
-    let start = c.before.before.before in
+    let start = c in
     (word_part start.args.line.now _ _ start.requires word-end.ensures.0, word_inside start.args.line.now _ _ start.requires word-end.ensures.0)
 
 pub word_spec : {M : Type 1} → statement M

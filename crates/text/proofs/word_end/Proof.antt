@@ -20,13 +20,13 @@ loop-holds c = (search rules, refl)
 
 returns : tie.Need-returns-then-is_blank invariant-loop decreases-loop
 returns c =
-    let at-loop-test = c.before.before.before in
+    let at-loop-test = c in
     let inv = at-loop-test.loop-i.invariant in
     (scan_stop in_word _ _ _ inv at-loop-test.loop-i-test.true (ap not (sym c.is_blank.ensures ∙ c.if-is_blank.true)), search rules)
 
 loop-again : tie.Need-loop-i-preserved invariant-loop decreases-loop
 loop-again c =
-    let at-loop-test = c.before.before.before in
+    let at-loop-test = c in
     let inv = at-loop-test.loop-i.invariant in
     scan_more in_word _ _ _ inv at-loop-test.loop-i-test.true (ap not (sym c.is_blank.ensures ∙ c.if-is_blank.false))
 

@@ -33,14 +33,14 @@ slice-aggregate-put-graph c = (back c.before.before.before).long
 
 put-graph-requires : tie.Need-put_graph-requires
 put-graph-requires c κs =
-    let t = c.before.before.before in
-    let s = begun t in
-    (s.requires.1, tidy_ordered s.requires.0 ((back t).same ∙ t.sort_edges.ensures))
+    let t = c in
+    let s = begun t.before.before.before in
+    (s.requires.1, tidy_ordered s.requires.0 ((back t.before.before.before).same ∙ t.sort_edges.ensures))
 
 returns : tie.Need-returns
 returns c =
-    let t = c.before.before.before.before.before.before in
-    tidy_written (begun t).requires.0 ((back t).same ∙ t.sort_edges.ensures) c.put_graph.ensures
+    let t = c in
+    tidy_written (begun t.before.before.before.before.before.before).requires.0 ((back t.before.before.before.before.before.before).same ∙ t.sort_edges.ensures) c.put_graph.ensures
 
 pub put_tidy_spec : {M : Type 1} → statement M
 put_tidy_spec =

@@ -21,24 +21,24 @@ room s = length s.args.out.now
 
 returns : tie.Need-returns-in-Refused
 returns c =
-    let s = c.before.before.before.before.before.before.before.before.before in
-    let w = refused (graph s) (room s) c.check_lent.ensures c.in-Refused.is in
-    (sym (ap (λ (o : Outcome (List ℕ)). told (reported length o)) w), c.clear_bytes.ensures ∙ sym (ap (output (room s) 0 (λ t. t)) w))
+    let s = c in
+    let w = refused (graph s.before.before.before.before.before.before.before.before.before) (room s.before.before.before.before.before.before.before.before.before) c.check_lent.ensures c.in-Refused.is in
+    (sym (ap (λ (o : Outcome (List ℕ)). told (reported length o)) w), c.clear_bytes.ensures ∙ sym (ap (output (room s.before.before.before.before.before.before.before.before.before) 0 (λ t. t)) w))
 
 put-tidy-requires : tie.Need-put_tidy-length-requires
 put-tidy-requires c κs =
-    let s = c.before.before.before.before.before.before in
+    let s = c in
     let says = c.check_lent.ensures in
     let is = c.in_default.is in
-    (passed (graph s) (room s) says is, size (graph s) (room s) says is)
+    (passed (graph s.before.before.before.before.before.before) (room s.before.before.before.before.before.before) says is, size (graph s.before.before.before.before.before.before) (room s.before.before.before.before.before.before) says is)
 
 returns-2 : tie.Need-returns
 returns-2 c =
-    let s = c.before.before.before.before.before.before.before.before.before in
+    let s = c in
     let says = c.check_lent.ensures in
     let is = c.in_default.is in
-    let text = yielded (graph s) (room s) says is in
-    let long = size (graph s) (room s) says is in
+    let text = yielded (graph s.before.before.before.before.before.before.before.before.before) (room s.before.before.before.before.before.before.before.before.before) says is in
+    let long = size (graph s.before.before.before.before.before.before.before.before.before) (room s.before.before.before.before.before.before.before.before.before) says is in
     let w = c.put_tidy-length.ensures in
     (answered text long _ (TextAnswer.Written _) w, filled_in text long _ (TextAnswer.Written _) w)
 

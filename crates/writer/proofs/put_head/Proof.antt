@@ -7,13 +7,13 @@ use Rattle.writer.proofs.put_head.Tie as tie
 
 put-sizes-requires : tie.Need-put_sizes-requires
 put-sizes-requires c κs =
-    let s = c.before.before.before.before.before.before.before.before.before.before in
+    let s = c in
     let h = c.put_header-at in
     omega (arith, header_at s.args.field s.args.s.kind h.ensures, s.requires, h.auto.out, c.clear_bytes.auto.out)
 
 returns : tie.Need-returns
 returns c =
-    let s = c.before.before.before.before.before.before.before.before.before.before.before.before.before in
+    let s = c in
     let a = s.args in
     head_puts a.out.now a.field a.s a.count s.requires (omega (arith, s.well_formed.1.1.0)) (omega (arith, s.well_formed.1.1.0)) s.ranges.count.fits
     c.clear_bytes.ensures

@@ -17,7 +17,7 @@ first : (c : tie.After-put_number) →
     Number a.out.now a.at a.m (put_mid a.at (length a.out.now - a.at) a.out.now c.put_number.new.0) c.put_number.result
 first c =
     let s = start1 c in
-    number s.args.out.now s.args.at s.args.m (omega (arith, s.requires)) s.fits.m.fits c.put_number.ensures
+    number s.args.out.now s.args.at s.args.m (omega (arith, s.requires)) s.ranges.m.fits c.put_number.ensures
 
 abbrev after1 : tie.After-put_number-2 → tie.After-put_number
 after1 c = c.before.before.before.before
@@ -29,7 +29,7 @@ second : (c : tie.After-put_number-2) →
     Pair a.out.now a.at a.m a.n (put_mid (a.at + k + 1) (length l - (a.at + k + 1)) l c.put_number-2.new.0) (a.at + k + 1 + c.put_number-2.result)
 second c =
     let s = start1 (after1 c) in
-    pair s.requires s.fits.m.fits s.fits.n.fits (first (after1 c)) c.put_number-2.ensures
+    pair s.requires s.ranges.m.fits s.ranges.n.fits (first (after1 c)) c.put_number-2.ensures
 
 add_a : tie.Need-overflow_add-a
 add_a c = let s = start1 c.before.before in omega (arith, first c.before.before, s.requires, s.good.0.0)
@@ -50,13 +50,13 @@ put-number-requires-2 : tie.Need-put_number-requires-2
 put-number-requires-2 c κs = number_room (first c.before.before.before) (omega (arith, (start1 c.before.before.before).requires))
 
 add-e : tie.Need-overflow_add-e
-add-e c = omega (arith, second c.before.before, (start1 (after1 c.before.before)).well-formed.0.0)
+add-e c = omega (arith, second c.before.before, (start1 (after1 c.before.before)).well_formed.0.0)
 
 slice-write-out-2 : tie.Need-bounds-out-e
 slice-write-out-2 c = omega (arith, second c.before.before)
 
 add-result : tie.Need-overflow_add-result
-add-result c = omega (arith, second c.before.before, (start1 (after1 c.before.before)).well-formed.0.0)
+add-result c = omega (arith, second c.before.before, (start1 (after1 c.before.before)).well_formed.0.0)
 
 same_length : tie.Need-shape_of-out
 same_length c = rw length-set (second c.before.before).long

@@ -18,7 +18,7 @@ first : (c : tie.After-put_number) →
     Number a.out.now a.at a.rows (put_mid a.at (length a.out.now - a.at) a.out.now c.put_number.new.0) c.put_number.result
 first c =
     let s = start1 c in
-    number s.args.out.now s.args.at s.args.rows (omega (arith, s.requires)) s.fits.rows.fits c.put_number.ensures
+    number s.args.out.now s.args.at s.args.rows (omega (arith, s.requires)) s.ranges.rows.fits c.put_number.ensures
 
 add_a : tie.Need-overflow_add-a
 add_a c = let s = start1 c.before.before in omega (arith, first c.before.before, s.requires, s.good.0.0)
@@ -34,14 +34,14 @@ put-pair-requires c κs = omega (arith, first c.before.before.before, (start1 c.
 
 same_length : tie.Need-shape_of-out
 same_length c =
-    let after1 = c.before.before.before.before.before.before in
-    c.put_pair.auto.out ∙ (first after1).blanked
+    let after1 = c in
+    c.put_pair.auto.out ∙ (first after1.before.before.before.before.before.before).blanked
 
 returns : tie.Need-returns
 returns c =
-    let after1 = c.before.before.before.before.before.before in
-    let s = start1 after1 in
-    sizes_put s.requires s.fits.rows.fits s.fits.columns.fits s.fits.count.fits (first after1).puts c.put_pair.ensures
+    let after1 = c in
+    let s = start1 after1.before.before.before.before.before.before in
+    sizes_put s.requires s.ranges.rows.fits s.ranges.columns.fits s.ranges.count.fits (first after1.before.before.before.before.before.before).puts c.put_pair.ensures
 
 pub put_sizes_spec : {M : Type 1} → statement M
 put_sizes_spec =

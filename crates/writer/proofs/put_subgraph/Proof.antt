@@ -23,7 +23,7 @@ put-head-requires c κs = omega (arith, c.requires.0)
 
 loop-holds : tie.Need-loop-e-init invariant-loop decreases-loop
 loop-holds c =
-    let s = c.before.before.before.before.before.before.before.before.before in
+    let s = c in
     let h = c.put_head-at in
     edges-start s.requires.1.0 s.requires.1.1 _ _
     (head-room s.requires.1.0 s.requires.1.1 s.args.out.now s.requires.0 c.count_chosen.ensures h.ensures h.auto.out)
@@ -45,14 +45,14 @@ shared-slice-read-put-chosen-edge-3 c =
 
 put-chosen-edge-requires : tie.Need-put_chosen_edge-at-requires invariant-loop decreases-loop
 put-chosen-edge-requires c κs =
-    let s = c.before.before.before.before.before.before.before.before.before.before.before.before.before.before.before in
+    let s = c in
     line-room s.requires.1.0 s.requires.1.1 c.loop-e.invariant c.loop-e-test.true
 
 loop-again : tie.Need-loop-e-preserved invariant-loop decreases-loop
 loop-again c =
-    let at-loop-test = c.before.before.before.before.before.before.before in
-    let at-loop = at-loop-test.before in
-    let s = at-loop.before.before.before.before.before.before.before.before.before.before in
+    let at-loop-test = c in
+    let at-loop = at-loop-test in
+    let s = at-loop in
     let p = c.put_chosen_edge-at in
     edges_more s.requires.1.0 s.requires.1.1 at-loop.loop-e.invariant at-loop-test.loop-e-test.true p.auto.out p.ensures
 
@@ -61,9 +61,9 @@ same_length c = c.loop-e.invariant.long ∙ c.put_head-at.auto.out
 
 returns : tie.Need-returns invariant-loop decreases-loop
 returns c =
-    let at-put-head = c.before.before.before.before in
-    let at-count-chosen = at-put-head.before in
-    let s = at-count-chosen.before.before.before.before.before.before in
+    let at-put-head = c in
+    let at-count-chosen = at-put-head in
+    let s = at-count-chosen in
     λ w. subgraph_written s.requires.1.0 s.requires.1.1 s.args.out.now s.requires.0 at-count-chosen.count_chosen.ensures
     at-put-head.put_head-at.ensures w
     (edges-end s.requires.1.0 s.requires.1.1 c.loop-e.invariant c.loop-e-test.false w)

@@ -21,44 +21,44 @@ long c = c.if-out-ne-LONGEST_TEXT.false
 
 -- The graph that was read stands in the three arrays.
 stored : (c : tie.In-Graph-2) →
-    let r = c.before.before.before.before.before in
+    let r = c in
     let d = r.read_assignment in
-    GraphStored (lentAssignment (begun r).args.crosses.now) c.in-Graph.s d.new.1.0 d.new.1.1.0 d.new.1.1.1.0
+    GraphStored (lentAssignment (begun r.before.before.before.before.before).args.crosses.now) c.in-Graph.s d.new.1.0 d.new.1.1.0 d.new.1.1.1.0
 stored c =
-    let r = c.before.before.before.before.before in
+    let r = c in
     let d = r.read_assignment in
-    graph-stored (whole (begun r).args.crosses.now) d.ensures.0 c.in-Graph.is d.ensures.1.0 d.ensures.1.1.0 d.ensures.1.1.1.0
+    graph-stored (whole (begun r.before.before.before.before.before).args.crosses.now) d.ensures.0 c.in-Graph.is d.ensures.1.0 d.ensures.1.1.0 d.ensures.1.1.1.0
     d.auto.row d.auto.column d.auto.weight
 
 returns : tie.Need-returns-then-out-ne-LONGEST_TEXT
 returns c =
-    let at-clear-bytes = c.before.before in
-    let at-if1 = at-clear-bytes.before.before in
+    let at-clear-bytes = c in
+    let at-if1 = at-clear-bytes in
     let args = at-if1.args in
     nothing_left 32768 (fromDimacsOutput args.crosses.now) at-if1.if-out-ne-LONGEST_TEXT.true at-clear-bytes.clear_bytes.ensures
 
 put-own-requires : tie.Need-put_own-requires
 put-own-requires c κs =
-    let at-s = c.before.before.before.before.before in
-    let r = at-s.before.before.before.before.before in
-    (long r, passed (begun r).args.crosses.now _ (stored at-s).same)
+    let at-s = c in
+    let r = at-s in
+    (long r.before.before.before.before.before.before.before.before.before.before, passed (begun r.before.before.before.before.before.before.before.before.before.before).args.crosses.now _ (stored at-s.before.before.before.before.before).same)
 
 returns-2 : tie.Need-returns-in-Refused
 returns-2 c =
-    let at-put-refused = c.before.before in
-    let at-refusal = at-put-refused.before.before in
-    let r = at-refusal.before.before.before.before.before in
-    let crosses = (begun r).args.crosses.now in
+    let at-put-refused = c in
+    let at-refusal = at-put-refused in
+    let r = at-refusal in
+    let crosses = (begun r.before.before.before.before.before.before.before.before.before).args.crosses.now in
     let refused = graph-refused r.read_assignment.ensures.0 at-refusal.in-Refused.is in
-    line-written (fromDimacsOutput crosses) (writes crosses refused) (long r) at-put-refused.put_refused.ensures
+    line-written (fromDimacsOutput crosses) (writes crosses refused) (long r.before.before.before.before.before.before.before.before.before) at-put-refused.put_refused.ensures
 
 returns-3 : tie.Need-returns-in-Graph
 returns-3 c =
-    let at-put-own = c.before.before in
-    let at-s = at-put-own.before.before.before.before.before.before in
-    let r = at-s.before.before.before.before.before in
-    let crosses = (begun r).args.crosses.now in
-    all-written (fromDimacsOutput crosses) (writes crosses (stored at-s).same) (long r) at-put-own.put_own.ensures
+    let at-put-own = c in
+    let at-s = at-put-own in
+    let r = at-s in
+    let crosses = (begun r.before.before.before.before.before.before.before.before.before.before.before.before.before).args.crosses.now in
+    all-written (fromDimacsOutput crosses) (writes crosses (stored at-s.before.before.before.before.before.before.before.before).same) (long r.before.before.before.before.before.before.before.before.before.before.before.before.before) at-put-own.put_own.ensures
 
 pub from_dimacs_output_spec : {M : Type 1} → statement M
 from_dimacs_output_spec =

@@ -16,14 +16,14 @@ begun c = c.before.before.before.before.before.before.before.before.before.befor
 
 -- The problem that was read stands in the four arrays.
 stored : (c : tie.In-Read-2) →
-    let at-read-problem = c.before.before.before.before.before in
+    let at-read-problem = c in
     let d = at-read-problem.read_problem in
-    let a = (begun at-read-problem).args in
+    let a = (begun at-read-problem.before.before.before.before.before).args in
     Stored a.sheet.now a.limits.now c.in-Read.s d.new.1.1.0 d.new.1.1.1.0 d.new.1.1.1.1.0 d.new.1.1.1.1.1.0
 stored c =
-    let at-read-problem = c.before.before.before.before.before in
+    let at-read-problem = c in
     let d = at-read-problem.read_problem in
-    let a = (begun at-read-problem).args in
+    let a = (begun at-read-problem.before.before.before.before.before).args in
     stored-in a.sheet.now a.limits.now d.ensures.0 d.ensures.1 c.in-Read.is
     d.auto.row d.auto.column d.auto.weight d.auto.bound
 
@@ -33,9 +33,9 @@ mark-problem-requires c κs = (stored c.before.before.before.before.before.befor
 returns : tie.Need-returns-in-Refused
 unfolding markOutput
 returns c =
-    let at_source = c.before.before.before.before in
-    let r = at_source.before.before.before.before.before in
-    let a = (begun r).args in
+    let at_source = c in
+    let r = at_source in
+    let a = (begun r.before.before.before.before.before.before.before.before.before).args in
     answer-inside
     (run_ends lineRoom measuredLine (λ P. markProblem P.graph P.bound a.plan.now a.prices.now)
     (problem-ended a.sheet.now a.limits.now r.read_problem.ensures.0 at_source.in-Refused.is)
@@ -44,11 +44,11 @@ returns c =
 returns-2 : tie.Need-returns-in-Read
 unfolding markOutput
 returns-2 c =
-    let v = c.before.before.before.before.before.before.before.before.before in
-    let a = (begun v.before.before.before.before.before.before).args in
+    let v = c in
+    let a = (begun v.before.before.before.before.before.before.before.before.before.before.before.before.before.before.before).args in
     answer-inside
     (run-goes lineRoom measuredLine (λ P. markProblem P.graph P.bound a.plan.now a.prices.now)
-    (stored-problem (stored v.before) v.vertex_count-n.ensures) c.mark_problem.ensures)
+    (stored-problem (stored v.before.before.before.before.before.before.before.before.before.before) v.vertex_count-n.ensures) c.mark_problem.ensures)
 
 pub mark_output_spec : {M : Type 1} → statement M
 mark_output_spec =

@@ -47,30 +47,30 @@ slice-aggregate-mark-prices c = (back c.before.before.before).long
 mark-prices-requires : tie.Need-mark_prices-requires
 mark-prices-requires c κs =
     let v = c.vertex_count in
-    let s = c.before.before.before.before.before.before.before.before.before.before.before.before.before in
+    let s = c in
     vertices-priced v.result s.args.s.edges v.ensures (back c.before.before.before.before).long
 
 returns : tie.Need-returns-in-Refused
 returns c =
-    let r = c.before.before.before.before.before.before in
-    let n = count (counted r) in
-    let v = (counted r).vertex_count in
-    let s = c.before.before.before.before.before.before.before.before.before.before.before.before.before.before.before in
+    let r = c in
+    let n = count (counted r.before.before.before.before.before.before) in
+    let v = (counted r.before.before.before.before.before.before).vertex_count in
+    let s = c in
     same_line
-    (plan-ends (graph s) s.args.bound.now s.args.chosen.now s.args.prices.now n (length (take n zeros))
-    (ap (λ k. k + s.args.s.edges) v.ensures) (first-long n zeros (fits (counted r))) r.read_numbers.ensures.0 c.in-Refused.is)
+    (plan-ends (graph s.before.before.before.before.before.before.before.before.before.before.before.before.before.before.before) s.args.bound.now s.args.chosen.now s.args.prices.now n (length (take n zeros))
+    (ap (λ k. k + s.args.s.edges) v.ensures) (first-long n zeros (fits (counted r.before.before.before.before.before.before))) r.read_numbers.ensures.0 c.in-Refused.is)
     c.put_refused.ensures
 
 returns-2 : tie.Need-returns-in-Read
 returns-2 c =
-    let r = c.before.before.before.before.before.before.before in
-    let n = count (counted r) in
-    let v = (counted r).vertex_count in
-    let s = c.before.before.before.before.before.before.before.before.before.before.before.before.before.before.before.before in
+    let r = c in
+    let n = count (counted r.before.before.before.before.before.before.before) in
+    let v = (counted r.before.before.before.before.before.before.before).vertex_count in
+    let s = c in
     same_line
-    (plan-goes (graph s) s.args.bound.now s.args.chosen.now s.args.prices.now n (length (take n zeros))
-    (ap (λ k. k + s.args.s.edges) v.ensures) (first-long n zeros (fits (counted r))) r.read_numbers.ensures.0
-    c.in-Read.is (back r).same r.read_numbers.ensures.1)
+    (plan-goes (graph s.before.before.before.before.before.before.before.before.before.before.before.before.before.before.before.before) s.args.bound.now s.args.chosen.now s.args.prices.now n (length (take n zeros))
+    (ap (λ k. k + s.args.s.edges) v.ensures) (first-long n zeros (fits (counted r.before.before.before.before.before.before.before))) r.read_numbers.ensures.0
+    c.in-Read.is (back r.before.before.before.before.before.before.before).same r.read_numbers.ensures.1)
     c.mark_prices.ensures
 
 pub mark_plan_spec : {M : Type 1} → statement M

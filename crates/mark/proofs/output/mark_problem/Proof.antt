@@ -24,7 +24,7 @@ back c = came-back (start1 c).args.s.edges zeros (start1 c).requires.few c.read_
 
 slice-aggregate-read-subgraph : tie.Need-slice_bounds-read_subgraph-end
 slice-aggregate-read-subgraph c =
-    let s = c.before.before.before.before.before.before.before in
+    let s = c in
     first-long s.args.s.edges zeros s.requires.few
 
 array-share-prefix-chosen : tie.Need-slice_bounds-chosen-end-in-Read
@@ -35,22 +35,22 @@ slice-aggregate-mark-plan c = (back c.before.before.before).long
 
 returns : tie.Need-returns-in-Refused
 returns c =
-    let s = c.before.before.before.before.before.before.before.before.before.before.before.before.before.before in
+    let s = c in
     let m = s.args.s.edges in
     let d = c.read_subgraph in
     same_line
-    (problem-ends (graph s) s.args.bound.now s.args.plan.now s.args.prices.now (length (take m zeros))
+    (problem-ends (graph s.before.before.before.before.before.before.before.before.before.before.before.before.before.before) s.args.bound.now s.args.plan.now s.args.prices.now (length (take m zeros))
     (first-long m zeros s.requires.few) d.ensures.0 c.in-Refused.is)
     c.put_refused.ensures
 
 returns-2 : tie.Need-returns-in-Read
 returns-2 c =
-    let s = c.before.before.before.before.before.before.before.before.before.before.before.before.before.before.before in
+    let s = c in
     let m = s.args.s.edges in
-    let r = c.before.before.before.before.before.before.before in
+    let r = c in
     same_line
-    (problem-goes (graph s) s.args.bound.now s.args.plan.now s.args.prices.now (length (take m zeros))
-    (first-long m zeros s.requires.few) r.read_subgraph.ensures.0 c.in-Read.is (back r).same r.read_subgraph.ensures.1)
+    (problem-goes (graph s.before.before.before.before.before.before.before.before.before.before.before.before.before.before.before) s.args.bound.now s.args.plan.now s.args.prices.now (length (take m zeros))
+    (first-long m zeros s.requires.few) r.read_subgraph.ensures.0 c.in-Read.is (back r.before.before.before.before.before.before.before).same r.read_subgraph.ensures.1)
     c.mark_plan.ensures
 
 pub mark_problem_spec : {M : Type 1} → statement M

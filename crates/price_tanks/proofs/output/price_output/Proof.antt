@@ -17,43 +17,43 @@ long c = c.if-out-ne-LONGEST_TEXT.false
 
 -- The problem that was read stands in the four arrays.
 stored : (c : tie.In-Read-2) →
-    let at-read-problem = c.before.before.before.before.before in
+    let at-read-problem = c in
     let d = at-read-problem.read_problem in
-    let a = (begun at-read-problem).args in
+    let a = (begun at-read-problem.before.before.before.before.before).args in
     Stored a.sheet.now a.limits.now c.in-Read.s d.new.1.1.0 d.new.1.1.1.0 d.new.1.1.1.1.0 d.new.1.1.1.1.1.0
 stored c =
-    let at-read-problem = c.before.before.before.before.before in
+    let at-read-problem = c in
     let d = at-read-problem.read_problem in
-    let a = (begun at-read-problem).args in
+    let a = (begun at-read-problem.before.before.before.before.before).args in
     stored-in a.sheet.now a.limits.now d.ensures.0 d.ensures.1 c.in-Read.is
     d.auto.row d.auto.column d.auto.weight d.auto.bound
 
 returns : tie.Need-returns-then-out-ne-LONGEST_TEXT
 returns c =
     let clear-bytes = c.clear_bytes in
-    let at-if1 = c.before.before.before.before in
+    let at-if1 = c in
     let a = at-if1.args in
     nothing_written a.sheet.now a.limits.now at-if1.if-out-ne-LONGEST_TEXT.true clear-bytes.ensures
 
 price-problem-requires : tie.Need-price_problem-requires
 price-problem-requires c κs =
-    let at-s = c.before.before.before.before.before.before.before in
-    ((stored at-s).sizes, long at-s.before.before.before.before.before)
+    let at-s = c in
+    ((stored at-s.before.before.before.before.before.before.before).sizes, long at-s.before.before.before.before.before.before.before.before.before.before.before.before)
 
 returns-2 : tie.Need-returns-in-Refused
 returns-2 c =
-    let at_source = c.before.before.before.before in
-    let r = at_source.before.before.before.before.before in
-    let a = (begun r).args in
+    let at_source = c in
+    let r = at_source in
+    let a = (begun r.before.before.before.before.before.before.before.before.before).args in
     refusal-written a.sheet.now a.limits.now
     (problem-ended a.sheet.now a.limits.now r.read_problem.ensures.0 at_source.in-Refused.is)
-    (long r) c.put_refused.ensures
+    (long r.before.before.before.before.before.before.before.before.before) c.put_refused.ensures
 
 returns-3 : tie.Need-returns-in-Read
 returns-3 c =
-    let v = c.before.before.before.before.before.before.before.before.before in
-    let a = (begun v.before.before.before.before.before.before).args in
-    priced-composed a.sheet.now a.limits.now (stored-problem (stored v.before) v.vertex_count-n.ensures)
+    let v = c in
+    let a = (begun v.before.before.before.before.before.before.before.before.before.before.before.before.before.before.before).args in
+    priced-composed a.sheet.now a.limits.now (stored-problem (stored v.before.before.before.before.before.before.before.before.before.before) v.vertex_count-n.ensures)
     c.price_problem.ensures
 
 pub price_output_spec : {M : Type 1} → statement M

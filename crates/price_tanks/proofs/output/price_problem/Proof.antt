@@ -46,26 +46,26 @@ slice-aggregate-price-general-2 c = zeros-lent (pos 0) 1024 c.requires.0.few
 
 put-numbers-requires : tie.Need-put_numbers-requires
 put-numbers-requires c κs =
-    let r = c.before.before.before.before.before.before in
-    let s = begun r in
-    (s.requires.1, (omega (arith, (vertex-back r).long, room (counted r)), omega (arith, (edge-back r).long, s.requires.0.few)))
+    let r = c in
+    let s = begun r.before.before.before.before.before.before in
+    (s.requires.1, (omega (arith, (vertex-back r.before.before.before.before.before.before).long, room (counted r.before.before.before.before.before.before)), omega (arith, (edge-back r.before.before.before.before.before.before).long, s.requires.0.few)))
 
 returns : tie.Need-returns-in-Refused
 returns c =
-    let at-refusal = c.before.before.before.before in
-    let r = at-refusal.before.before.before in
-    let s = begun r in
-    refusal-left (graph s) s.args.bound.now (vertex-lent r) (edge-lent r) r.price_general.ensures.0 at-refusal.in-Refused.is s.requires.1
+    let at-refusal = c in
+    let r = at-refusal in
+    let s = begun r.before.before.before.before.before.before.before in
+    refusal-left (graph s) s.args.bound.now (vertex-lent r.before.before.before.before.before.before.before) (edge-lent r.before.before.before.before.before.before.before) r.price_general.ensures.0 at-refusal.in-Refused.is s.requires.1
     c.put_refused.ensures
 
 returns-2 : tie.Need-returns-in-Priced
 returns-2 c =
-    let at-enum-told = c.before.before.before.before.before.before in
-    let r = at-enum-told.before.before.before in
-    let s = begun r in
+    let at-enum-told = c in
+    let r = at-enum-told in
+    let s = begun r.before.before.before.before.before.before.before.before.before in
     let done = r.price_general.ensures in
-    prices-left (graph s) s.args.bound.now (vertex-lent r) (edge-lent r) done.0 at-enum-told.in-Priced.is done.1
-    (vertex-back r).same (edge-back r).same s.requires.1 c.put_numbers.ensures
+    prices-left (graph s) s.args.bound.now (vertex-lent r.before.before.before.before.before.before.before.before.before) (edge-lent r.before.before.before.before.before.before.before.before.before) done.0 at-enum-told.in-Priced.is done.1
+    (vertex-back r.before.before.before.before.before.before.before.before.before).same (edge-back r.before.before.before.before.before.before.before.before.before).same s.requires.1 c.put_numbers.ensures
 
 pub price_problem_spec : {M : Type 1} → statement M
 price_problem_spec =

@@ -13,25 +13,25 @@ use Rattle.rewrite.proofs.output.rewrite_output.Tie as tie
 
 returns : tie.Need-returns-then-out-lt-LONGEST_TEXT
 returns c =
-    let at-clear-bytes = c.before.before.before in
-    let start = at-clear-bytes.before.before.before.before in
+    let at-clear-bytes = c in
+    let start = at-clear-bytes in
     let a = start.args in
     let C = no_room 32768 (rewriteOutput a.text.now) a.out.now at-clear-bytes.clear_bytes.ensures c.if-out-lt-LONGEST_TEXT.true in
     (composed-inside C, C)
 
 put-text-requires : tie.Need-put_text-requires
 put-text-requires c κs =
-    let at-if1 = c.before.before.before in
-    let start = at-if1.before.before.before.before.before.before.before in
+    let at-if1 = c in
+    let start = at-if1 in
     omega (arith, at-if1.if-out-lt-LONGEST_TEXT.false, taken-fits start.args.text.now (sym c.is_taken.ensures ∙ c.if-is_taken.true))
 
 returns-2 : tie.Need-returns-then-is_taken
 returns-2 c =
-    let at-if2 = c.before.before.before.before in
-    let at-is-taken = at-if2.before in
-    let at-if1 = at-is-taken.before in
-    let at-clear-bytes = at-if1.before.before.before in
-    let start = at-clear-bytes.before.before.before.before in
+    let at-if2 = c in
+    let at-is-taken = at-if2 in
+    let at-if1 = at-is-taken in
+    let at-clear-bytes = at-if1 in
+    let start = at-clear-bytes in
     let a = start.args in
     let C = text-composed 32768 (rewriteOutput a.text.now) a.out.now at-clear-bytes.clear_bytes.ensures at-if1.if-out-lt-LONGEST_TEXT.false
     (puts-same c.put_text.ensures (sym (output-anew a.text.now (sym at-is-taken.is_taken.ensures ∙ at-if2.if-is_taken.true)))) in
@@ -39,11 +39,11 @@ returns-2 c =
 
 returns-3 : tie.Need-returns-else-is_taken
 returns-3 c =
-    let at-if2 = c.before.before.before.before.before in
-    let at-is-taken = at-if2.before in
-    let at-if1 = at-is-taken.before in
-    let at-clear-bytes = at-if1.before.before.before in
-    let start = at-clear-bytes.before.before.before.before in
+    let at-if2 = c in
+    let at-is-taken = at-if2 in
+    let at-if1 = at-is-taken in
+    let at-clear-bytes = at-if1 in
+    let start = at-clear-bytes in
     let a = start.args in
     let C = text-composed 32768 (rewriteOutput a.text.now) a.out.now at-clear-bytes.clear_bytes.ensures at-if1.if-out-lt-LONGEST_TEXT.false
     (puts-same c.put_bytes.ensures
@@ -59,7 +59,6 @@ rewrite_output_spec =
     returns
     (λ c κs. search rules)
     put-text-requires
-    (λ c. search rules)
     (λ c κs. search rules)
     (λ c. search rules)
     returns-2

@@ -47,32 +47,32 @@ slice-aggregate-put-subgraph c = (back c.before.before.before.before.before.befo
 
 put-subgraph-requires : tie.Need-put_subgraph-requires
 put-subgraph-requires c κs =
-    let r = c.before.before.before.before.before.before.before in
-    let s = begun r in
+    let r = c in
+    let s = begun r.before.before.before.before.before.before.before in
     let done = r.solve.ensures in
     let is = c.in-Solved.is in (
       s.requires.1,
       (
-        (solved-passed (graph s) s.args.bound.now s.args.index.now (lent r) done.0 is done.1).sound,
-        part-marks (graph s) s.args.bound.now s.args.index.now (lent r) done.0 is done.1 (drop s.args.s.edges noMarks),
+        (solved-passed (graph s) s.args.bound.now s.args.index.now (lent r.before.before.before.before.before.before.before) done.0 is done.1).sound,
+        part-marks (graph s) s.args.bound.now s.args.index.now (lent r.before.before.before.before.before.before.before) done.0 is done.1 (drop s.args.s.edges noMarks),
       ),
     )
 
 returns : tie.Need-returns-in-Refused
 returns c =
-    let at-refusal = c.before.before.before.before in
-    let r = at-refusal.before.before.before.before.before in
-    let s = begun r in
-    refusal-left (graph s) s.args.bound.now s.args.index.now (lent r) r.solve.ensures.0 at-refusal.in-Refused.is s.requires.1
+    let at-refusal = c in
+    let r = at-refusal in
+    let s = begun r.before.before.before.before.before.before.before.before.before in
+    refusal-left (graph s) s.args.bound.now s.args.index.now (lent r.before.before.before.before.before.before.before.before.before) r.solve.ensures.0 at-refusal.in-Refused.is s.requires.1
     c.put_refused.ensures
 
 returns-2 : tie.Need-returns-in-Solved
 returns-2 c =
-    let at-enum-told = c.before.before.before.before.before in
-    let r = at-enum-told.before.before.before.before.before in
-    let s = begun r in
+    let at-enum-told = c in
+    let r = at-enum-told in
+    let s = begun r.before.before.before.before.before.before.before.before.before.before in
     let done = r.solve.ensures in
-    part-written (graph s) s.args.bound.now s.args.index.now (lent r) done.0 at-enum-told.in-Solved.is done.1
+    part-written (graph s) s.args.bound.now s.args.index.now (lent r.before.before.before.before.before.before.before.before.before.before) done.0 at-enum-told.in-Solved.is done.1
     (drop s.args.s.edges noMarks) s.requires.1 (c.put_subgraph.ensures s.args.weight.now)
 
 pub solve_indexed_spec : {M : Type 1} → statement M

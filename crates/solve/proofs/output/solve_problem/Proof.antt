@@ -35,8 +35,8 @@ back c =
 
 slice-aggregate-build-index : tie.Need-slice_bounds-build_index-end
 slice-aggregate-build-index c =
-    let s = c.before.before.before.before.before in
-    zeros-lent 0 2177 (index-fits (graph s) s.requires.0 c.index_numbers-k.ensures)
+    let s = c in
+    zeros-lent 0 2177 (index-fits (graph s.before.before.before.before.before) s.requires.0 c.index_numbers-k.ensures)
 
 array-share-prefix-index : tie.Need-slice_bounds-index-end-in-Indexed
 array-share-prefix-index c = (back c.before.before).room
@@ -46,17 +46,17 @@ slice-aggregate-solve-indexed c = (back c.before.before.before).long
 
 returns : tie.Need-returns-in-Refused
 returns c =
-    let b = c.before.before.before.before.before.before in
-    let s = begun b in
-    index-refused (graph s) s.args.bound.now (lent b) b.build_index.ensures.0 c.in-Refused.is s.requires.1
+    let b = c in
+    let s = begun b.before.before.before.before.before.before in
+    index-refused (graph s) s.args.bound.now (lent b.before.before.before.before.before.before) b.build_index.ensures.0 c.in-Refused.is s.requires.1
     c.put_refused.ensures
 
 returns-2 : tie.Need-returns-in-Indexed
 returns-2 c =
-    let b = c.before.before.before.before.before.before.before in
-    let s = begun b in
+    let b = c in
+    let s = begun b.before.before.before.before.before.before.before in
     let done = b.build_index.ensures in
-    index-solved (graph s) s.args.bound.now (lent b) done.0 c.in-Indexed.is ((back b).same ∙ done.1)
+    index-solved (graph s) s.args.bound.now (lent b.before.before.before.before.before.before.before) done.0 c.in-Indexed.is ((back b.before.before.before.before.before.before.before).same ∙ done.1)
     c.solve_indexed.ensures
 
 pub solve_problem_spec : {M : Type 1} → statement M

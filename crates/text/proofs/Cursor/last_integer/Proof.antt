@@ -20,16 +20,16 @@ returns c =
 
 no-words-requires : tie.Need-no_words-requires
 no-words-requires c κs =
-    let at-next-integer = c.before in
-    let start = at-next-integer.before.before in
+    let at-next-integer = c in
+    let start = at-next-integer in
     (took (integer start.args.rules) start.args.line.now start.args.self (integer-nil start.args.rules) start.requires _ _
     (sym (ap next_integer_says c.in-Is.is) ∙ at-next-integer.next_integer.ensures)).inside
 
 returns-2 : tie.Need-returns-then-no_words
 returns-2 c =
-    let at_value = c.before.before in
-    let at-next-integer = at_value.before in
-    let start = at-next-integer.before.before in
+    let at_value = c in
+    let at-next-integer = at_value in
+    let start = at-next-integer in
     rw
     (to_z-of_z {w = w32}
     (integer-fits start.args.rules _ _
@@ -42,9 +42,9 @@ returns-2 c =
 
 returns-3 : tie.Need-returns-else-no_words
 returns-3 c =
-    let at_value = c.before.before in
-    let at-next-integer = at_value.before in
-    let start = at-next-integer.before.before in
+    let at_value = c in
+    let at-next-integer = at_value in
+    let start = at-next-integer in
     one_last (integer start.args.rules) start.args.line.now _ _ _
     (took (integer start.args.rules) start.args.line.now start.args.self (integer-nil start.args.rules) start.requires _ _
     (sym (ap next_integer_says at_value.in-Is.is) ∙ at-next-integer.next_integer.ensures)) _

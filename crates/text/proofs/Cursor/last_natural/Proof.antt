@@ -17,16 +17,16 @@ returns c =
 
 no-words-requires : tie.Need-no_words-requires
 no-words-requires c κs =
-    let at-next-natural = c.before in
-    let start = at-next-natural.before.before in
+    let at-next-natural = c in
+    let start = at-next-natural in
     (took (natural start.args.rules) start.args.line.now start.args.self (natural-nil start.args.rules) start.requires _ _
     (sym (ap next_natural_says c.in-Is.is) ∙ at-next-natural.next_natural.ensures)).inside
 
 returns-2 : tie.Need-returns-then-no_words
 returns-2 c =
-    let at_value = c.before.before in
-    let at-next-natural = at_value.before in
-    let start = at-next-natural.before.before in
+    let at_value = c in
+    let at-next-natural = at_value in
+    let start = at-next-natural in
     one_last (natural start.args.rules) start.args.line.now _ _ _
     (took (natural start.args.rules) start.args.line.now start.args.self (natural-nil start.args.rules) start.requires _ _
     (sym (ap next_natural_says at_value.in-Is.is) ∙ at-next-natural.next_natural.ensures)) _
@@ -34,9 +34,9 @@ returns-2 c =
 
 returns-3 : tie.Need-returns-else-no_words
 returns-3 c =
-    let at_value = c.before.before in
-    let at-next-natural = at_value.before in
-    let start = at-next-natural.before.before in
+    let at_value = c in
+    let at-next-natural = at_value in
+    let start = at-next-natural in
     one_last (natural start.args.rules) start.args.line.now _ _ _
     (took (natural start.args.rules) start.args.line.now start.args.self (natural-nil start.args.rules) start.requires _ _
     (sym (ap next_natural_says at_value.in-Is.is) ∙ at-next-natural.next_natural.ensures)) _

@@ -14,8 +14,8 @@ use Rattle.text.proofs.Cursor.next_integer.Tie as tie
 returns : tie.Need-returns-in_default
 returns c =
     let read-integer = c.read_integer in
-    let at_word = c.before.before in
-    let at-skip-blanks = at_word.before in
+    let at_word = c in
+    let at-skip-blanks = at_word in
     let args = at-skip-blanks.args in
     next-bad (integer args.rules) args.line.now args.self _
     (word_is args.line.now args.self.at at-skip-blanks.skip_blanks-start.ensures.0 at_word.word-w.ensures.0)
@@ -24,9 +24,9 @@ returns c =
 returns-2 : tie.Need-returns
 returns-2 c =
     let value = c.in-Is in
-    let at-read-integer = c.before in
-    let at_word = at-read-integer.before in
-    let at-skip-blanks = at_word.before in
+    let at-read-integer = c in
+    let at_word = at-read-integer in
+    let at-skip-blanks = at_word in
     let args = at-skip-blanks.args in
     rw (to_z-of_z {w = w32} (integer-fits args.rules _ _ (sym at-read-integer.read_integer.ensures ∙ ap integer_says value.is)))
     (next-is (integer args.rules) args.line.now args.self _

@@ -11,8 +11,8 @@ use Rattle.text.proofs.Cursor.next_natural.Tie as tie
 returns : tie.Need-returns-in_default
 returns c =
     let read-natural = c.read_natural in
-    let at_word = c.before.before in
-    let at-skip-blanks = at_word.before in
+    let at_word = c in
+    let at-skip-blanks = at_word in
     let args = at-skip-blanks.args in
     next-bad (natural args.rules) args.line.now args.self _
     (word_is args.line.now args.self.at at-skip-blanks.skip_blanks-start.ensures.0 at_word.word-w.ensures.0)
@@ -20,9 +20,9 @@ returns c =
 
 returns-2 : tie.Need-returns
 returns-2 c =
-    let at-read-natural = c.before in
-    let at_word = at-read-natural.before in
-    let at-skip-blanks = at_word.before in
+    let at-read-natural = c in
+    let at_word = at-read-natural in
+    let at-skip-blanks = at_word in
     let args = at-skip-blanks.args in
     next-is (natural args.rules) args.line.now args.self _
     (word_is args.line.now args.self.at at-skip-blanks.skip_blanks-start.ensures.0 at_word.word-w.ensures.0) _

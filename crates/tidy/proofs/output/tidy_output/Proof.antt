@@ -19,13 +19,13 @@ long c = c.if-out-ne-LONGEST_TEXT.false
 
 -- The graph that was read stands in the three arrays.
 stored : (c : tie.In-Graph-2) →
-    let r = c.before.before.before.before in
+    let r = c in
     let d = r.read_graph in
-    GraphStored (lentGraph (begun r).args.sheet.now) c.in-Graph.s d.new.1.0 d.new.1.1.0 d.new.1.1.1.0
+    GraphStored (lentGraph (begun r.before.before.before.before).args.sheet.now) c.in-Graph.s d.new.1.0 d.new.1.1.0 d.new.1.1.1.0
 stored c =
-    let r = c.before.before.before.before in
+    let r = c in
     let d = r.read_graph in
-    graph-stored (sheet-whole (begun r).args.sheet.now) d.ensures.0 c.in-Graph.is d.ensures.1.0 d.ensures.1.1.0 d.ensures.1.1.1
+    graph-stored (sheet-whole (begun r.before.before.before.before).args.sheet.now) d.ensures.0 c.in-Graph.is d.ensures.1.0 d.ensures.1.1.0 d.ensures.1.1.1
     d.auto.row d.auto.column d.auto.weight
 
 returns : tie.Need-returns-then-out-ne-LONGEST_TEXT
@@ -39,19 +39,19 @@ tidy-read-requires c κs = long c.before.before.before.before.before.before.befo
 returns-2 : tie.Need-returns-in-Refused
 unfolding tidyOutput
 returns-2 c =
-    let at-refusal = c.before.before.before.before in
-    let r = at-refusal.before.before.before.before in
+    let at-refusal = c in
+    let r = at-refusal in
     answer-inside
     (run_ends wholeTextRoom (λ text. text) tidyRun
-    (sheet-came (begun r).args.sheet.now (graph-refused r.read_graph.ensures.0 at-refusal.in-Refused.is))
-    (line-fits 32768 (omega arith) (long r)) c.put_refused.ensures)
+    (sheet-came (begun r.before.before.before.before.before.before.before.before).args.sheet.now (graph-refused r.read_graph.ensures.0 at-refusal.in-Refused.is))
+    (line-fits 32768 (omega arith) (long r.before.before.before.before.before.before.before.before)) c.put_refused.ensures)
 
 returns-3 : tie.Need-returns-in-Graph
 unfolding tidyOutput
 returns-3 c =
-    let at-s = c.before.before.before.before.before.before.before.before in
-    let sheet = (begun at-s.before.before.before.before).args.sheet.now in
-    answer-inside (run-goes wholeTextRoom (λ text. text) tidyRun (sheet-came sheet (stored at-s).same) c.tidy_read.ensures)
+    let at-s = c in
+    let sheet = (begun at-s.before.before.before.before.before.before.before.before.before.before.before.before).args.sheet.now in
+    answer-inside (run-goes wholeTextRoom (λ text. text) tidyRun (sheet-came sheet (stored at-s.before.before.before.before.before.before.before.before).same) c.tidy_read.ensures)
 
 pub tidy_output_spec : {M : Type 1} → statement M
 tidy_output_spec =

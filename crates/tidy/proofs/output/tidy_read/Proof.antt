@@ -12,15 +12,15 @@ graph s = graph_of s.args.s s.args.row.now s.args.column.now s.args.weight.now
 
 returns : tie.Need-returns-in-Written
 returns c =
-    let s = c.before.before.before.before.before.before.before.before in
+    let s = c in
     let done = c.tidy_graph.ensures in
-    text-left (tidyGraph (graph s)) s.requires done.0 c.in-Written.is done.1
+    text-left (tidyGraph (graph s.before.before.before.before.before.before.before.before)) s.requires done.0 c.in-Written.is done.1
 
 returns-2 : tie.Need-returns-in-Refused
 returns-2 c =
-    let s = c.before.before.before.before.before.before.before.before.before.before.before.before in
+    let s = c in
     let d = c.tidy_graph in
-    refusal-left (tidyGraph (graph s)) s.requires d.ensures.0 c.in-Refused.is d.auto.out c.put_refused.ensures
+    refusal-left (tidyGraph (graph s.before.before.before.before.before.before.before.before.before.before.before.before)) s.requires d.ensures.0 c.in-Refused.is d.auto.out c.put_refused.ensures
 
 pub tidy_read_spec : {M : Type 1} → statement M
 tidy_read_spec =

@@ -12,18 +12,18 @@ graph s = graph_of s.args.s s.args.row.now s.args.column.now s.args.weight.now
 
 returns : tie.Need-returns-in-Written
 returns c =
-    let call = c.before.before.before in
-    let s = call.before.before.before.before.before in
+    let call = c in
+    let s = call in
     let done = call.write_assignment.ensures in
-    text-left (writeAssignment (graph s) s.args.bound.now) s.requires done.0 c.in-Written.is done.1
+    text-left (writeAssignment (graph s.before.before.before.before.before.before.before.before) s.args.bound.now) s.requires done.0 c.in-Written.is done.1
 
 returns-2 : tie.Need-returns-in-Refused
 returns-2 c =
-    let refusal = c.before.before.before.before in
-    let call = refusal.before.before.before in
-    let s = call.before.before.before.before.before in
+    let refusal = c in
+    let call = refusal in
+    let s = call in
     let d = call.write_assignment in
-    refusal-left (writeAssignment (graph s) s.args.bound.now) s.requires d.ensures.0 refusal.in-Refused.is d.auto.out
+    refusal-left (writeAssignment (graph s.before.before.before.before.before.before.before.before.before.before.before.before) s.args.bound.now) s.requires d.ensures.0 refusal.in-Refused.is d.auto.out
     c.put_refused.ensures
 
 pub write_problem_spec : {M : Type 1} → statement M
