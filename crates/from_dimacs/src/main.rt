@@ -7,10 +7,10 @@ mod output;
 use files::FILE_BYTES;
 use graph::LONGEST_TEXT;
 
-fn main() {
+fn main(rt: HostRuntime) {
     let mut crosses = [0u8; FILE_BYTES];
-    let n = files::read(b"crosses.asn", &mut crosses);
+    let n = files::read(&rt, b"crosses.asn", &mut crosses);
     let mut out = [0u8; LONGEST_TEXT];
     let length = output::from_dimacs_output(&crosses[..n], &mut out);
-    files::write(&out, length);
+    files::write(&rt, &out, length);
 }

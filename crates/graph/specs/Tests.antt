@@ -38,13 +38,16 @@ abbrev pub kind_test : Graph → Test
 kind_test g = once NotBipartite (is_bipartite g.kind)
 
 -- The tests of a call that takes a graph with bounds: the lengths (9), of which the call tests others itself, the graph's numbers (4, 6, 7, 8), and the
--- bounds (10); and those of one that takes a bipartite graph, which has the kind (16) besides.
+-- bounds (10).
 abbrev pub bounded_tests : Graph → List ℤ → Bool → List Test
 bounded_tests g bound others =
     once LentLength (graph_lengths g && (eqb (length bound) (vertices g) && others)) ∷ (graph_tests g ++ (bound_test g bound ∷ []))
 
+-- The tests of a call that takes a bipartite graph with bounds: the lengths (9), of which the call tests others itself, the graph's numbers (4, 6, 7, 8), the
+-- bounds (10), and the kind (16).
 abbrev pub bipartite_tests : Graph → List ℤ → Bool → List Test
-bipartite_tests g bound others = bounded_tests g bound others ++ (kind_test g ∷ [])
+bipartite_tests g bound others =
+    once LentLength (graph_lengths g && (eqb (length bound) (vertices g) && others)) ∷ (graph_tests g ++ (bound_test g bound ∷ kind_test g ∷ []))
 
 -- The marks (11), and the degrees (12).
 abbrev pub mark_test : Graph → List ℕ → Test

@@ -7,7 +7,7 @@ ghost use Rattle.graph.specs.Refusal.{yields, once, passing};
 ghost use Rattle.graph.specs.Graph.{graph_of};
 ghost use Rattle.graph.specs.Tests.{graph_lengths, graph_tests};
 ghost use Rattle.checks.specs.Checks.{check_says};
-ghost use Rattle.graph.specs.Tests.{is_bipartite, bounded_tests, bipartite_tests};
+ghost use Rattle.graph.specs.Tests.{bounded_tests, bipartite_tests};
 
 use checks::Check;
 use graph::{Fault, Kind, Shape};
@@ -54,17 +54,7 @@ pub fn check_bounded(
     Check::Passed
 }
 
-// Whether a graph of this kind is bipartite.
-fn is_bipartite(kind: Kind) -> bool
-    ensures { result ≡ is_bipartite kind }
-{
-    match kind {
-        Kind::Bipartite => true,
-        Kind::General => false,
-    }
-}
-
-// The same of a call that takes a bipartite graph.
+// The tests of a call that takes a bipartite graph with bounds, in their order. Of the lengths it has tested others itself.
 pub fn check_bipartite(
     s: Shape,
     row: &[u32],
@@ -79,6 +69,8 @@ pub fn check_bipartite(
         return Check::Refused(r);
     }
     let kind = s.kind;
-    let last = checks::check_once(Fault::NotBipartite, is_bipartite(kind));
-    last
+    if let Kind::General = kind {
+        return checks::refused(Fault::NotBipartite, 0);
+    }
+    Check::Passed
 }

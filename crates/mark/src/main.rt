@@ -7,15 +7,15 @@ mod output;
 use files::FILE_BYTES;
 use report::LINE_BYTES;
 
-fn main() {
+fn main(rt: HostRuntime) {
     let mut sheet = [0u8; FILE_BYTES];
-    let s = files::read(b"sheet.mtx", &mut sheet);
+    let s = files::read(&rt, b"sheet.mtx", &mut sheet);
     let mut limits = [0u8; FILE_BYTES];
-    let l = files::read(b"limits.mtx", &mut limits);
+    let l = files::read(&rt, b"limits.mtx", &mut limits);
     let mut plan = [0u8; FILE_BYTES];
-    let p = files::read(b"plan.mtx", &mut plan);
+    let p = files::read(&rt, b"plan.mtx", &mut plan);
     let mut prices = [0u8; FILE_BYTES];
-    let q = files::read(b"prices.mtx", &mut prices);
+    let q = files::read(&rt, b"prices.mtx", &mut prices);
     let mut out = [0u8; LINE_BYTES];
     let n = output::mark_output(
         &sheet[..s],
@@ -24,5 +24,5 @@ fn main() {
         &prices[..q],
         &mut out,
     );
-    files::write(&out, n);
+    files::write(&rt, &out, n);
 }

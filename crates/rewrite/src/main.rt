@@ -7,10 +7,10 @@ mod output;
 use files::FILE_BYTES;
 use graph::LONGEST_TEXT;
 
-fn main() {
+fn main(rt: HostRuntime) {
     let mut old = [0u8; FILE_BYTES];
-    let n = files::read(b"old.mtx", &mut old);
+    let n = files::read(&rt, b"old.mtx", &mut old);
     let mut out = [0u8; LONGEST_TEXT];
     let length = output::rewrite_output(&old[..n], &mut out);
-    files::write(&out, length);
+    files::write(&rt, &out, length);
 }

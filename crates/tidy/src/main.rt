@@ -7,10 +7,10 @@ mod output;
 use files::FILE_BYTES;
 use graph::LONGEST_TEXT;
 
-fn main() {
+fn main(rt: HostRuntime) {
     let mut sheet = [0u8; FILE_BYTES];
-    let n = files::read(b"sheet.mtx", &mut sheet);
+    let n = files::read(&rt, b"sheet.mtx", &mut sheet);
     let mut out = [0u8; LONGEST_TEXT];
     let length = output::tidy_output(&sheet[..n], &mut out);
-    files::write(&out, length);
+    files::write(&rt, &out, length);
 }

@@ -7,12 +7,12 @@ mod output;
 use files::FILE_BYTES;
 use graph::LONGEST_TEXT;
 
-fn main() {
+fn main(rt: HostRuntime) {
     let mut sheet = [0u8; FILE_BYTES];
-    let s = files::read(b"sheet.mtx", &mut sheet);
+    let s = files::read(&rt, b"sheet.mtx", &mut sheet);
     let mut limits = [0u8; FILE_BYTES];
-    let l = files::read(b"limits.mtx", &mut limits);
+    let l = files::read(&rt, b"limits.mtx", &mut limits);
     let mut out = [0u8; LONGEST_TEXT];
     let length = output::to_dimacs_output(&sheet[..s], &limits[..l], &mut out);
-    files::write(&out, length);
+    files::write(&rt, &out, length);
 }

@@ -30,7 +30,7 @@ begun c = let a = at_field c in a.before.before.before.before.before.before.befo
 costed : (c : tie.After-put_signed-end) →
     let s = begun c in
     let p = c.put_signed-end in
-    Part s.args.out.now s.args.at (arc_front (row_of s) (target s) (cost s)) p.new.0 p.result (s.args.at + 2 + 21 + 21 + 21)
+    Part s.args.out.now s.args.at (arc_front (row_of s) (target s) (cost s)) p.new.out p.result (s.args.at + 2 + 21 + 21 + 21)
 costed c =
     let s = begun c in
     let w = c.cost_of in
@@ -45,7 +45,7 @@ cast-put-field c = omega (arith, c.shared_slice_known-3-1.given c.args.e)
 same_length : tie.Need-shape_of-out
 same_length c =
     let t = c in
-    length-set t.put_signed-end.new.0 t.put_signed-end.result 10 ∙ (costed t.before.before).long
+    length-set t.put_signed-end.new.out t.put_signed-end.result 10 ∙ (costed t.before.before).long
 
 returns : tie.Need-returns
 returns c =

@@ -12,7 +12,7 @@ use Rattle.assignment_writer.proofs.put_assignment.Tie as tie
 abbrev begun : tie.After-clear_bytes → tie.Start
 begun c = c.before.before.before.before.before
 
-cleared : (c : tie.After-clear_bytes) → length c.clear_bytes.new.0 ≡ longest_text
+cleared : (c : tie.After-clear_bytes) → length c.clear_bytes.new.out ≡ longest_text
 cleared c = c.clear_bytes.auto.out ∙ (begun c).requires.0
 
 put-sources-requires : tie.Need-put_sources-b-requires

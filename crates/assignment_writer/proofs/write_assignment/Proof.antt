@@ -44,7 +44,7 @@ returns-2 c =
     let text = yielded (graph s.before.before.before.before.before.before.before.before.before) s.args.bound.now (room s.before.before.before.before.before.before.before.before.before) says is in
     let long = size (graph s.before.before.before.before.before.before.before.before.before) s.args.bound.now (room s.before.before.before.before.before.before.before.before.before) says is in
     let a = c.answer_assignment in
-    (answered text long a.new.0 a.result a.ensures, filled_in text long a.new.0 a.result a.ensures)
+    (answered text long a.new.out a.result a.ensures, filled_in text long a.new.out a.result a.ensures)
 
 pub write_assignment_spec : {M : Type 1} → statement M
 write_assignment_spec =

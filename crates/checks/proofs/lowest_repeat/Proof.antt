@@ -32,13 +32,13 @@ module _ (c : tie.After-note invariant-loop decreases-loop) where
   column = place.args.column.now
 
   ends : Flagged (get_or row here 0) × Flagged (get_or column here 0)
-  ends = place.pre.1 here c.loop-e-test.true
+  ends = place.requires.1 here c.loop-e-test.true
 
   answer : c.note.result ≡ joined_in row column here (get_or row here 0) (get_or column here 0)
   answer = c.note.ensures.0 ∙ seen_flag c.loop-e.invariant.1 ends.0 ends.1
 
-  noted : Seen c.note.new.0 row column (here + 1)
-  noted = seen_note c.loop-e.invariant.1 c.note.new.0 _ _ c.note.ensures.1 refl refl ends.0 ends.1
+  noted : Seen c.note.new.flags row column (here + 1)
+  noted = seen_note c.loop-e.invariant.1 c.note.new.flags _ _ c.note.ensures.1 refl refl ends.0 ends.1
 
 loop-holds : tie.Need-loop-e-init invariant-loop decreases-loop
 loop-holds c = (kept_none, seen_start _ _)
@@ -58,14 +58,14 @@ returns c =
     let place = c in
     let at-loop-test = place in
     let inv = at-loop-test.loop-e.invariant in
-    kept_broken inv.0 at-loop-test.loop-e-test.true (ap not (sym (answer place) ∙ c.if-note.true))
+    kept_broken inv.0 at-loop-test.loop-e-test.true (ap not (sym (answer place.before.before) ∙ c.if-note.true))
 
 loop-again : tie.Need-loop-e-preserved invariant-loop decreases-loop
 loop-again c =
     let place = c in
     let at-loop-test = place in
     let inv = at-loop-test.loop-e.invariant in
-    (kept_more inv.0 at-loop-test.loop-e-test.true (ap not (sym (answer place) ∙ c.if-note.false)), noted place)
+    (kept_more inv.0 at-loop-test.loop-e-test.true (ap not (sym (answer place.before.before) ∙ c.if-note.false)), noted place.before.before)
 
 returns-2 : tie.Need-returns invariant-loop decreases-loop
 returns-2 c = kept_all c.loop-e.invariant.0 c.loop-e-test.false

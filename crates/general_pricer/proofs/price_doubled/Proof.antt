@@ -67,21 +67,21 @@ third c = c.before.before.before
 abbrev fourth : tie.After-join_integers-2 → tie.After-join_integers
 fourth c = c.before.before.before
 
-rows_back : (c : tie.After-join_naturals) → PartBack (size (first c)) (replicate 1024 0) c.join_naturals.new.1.1.0
+rows_back : (c : tie.After-join_naturals) → PartBack (size (first c)) (replicate 1024 0) c.join_naturals.new.out
 rows_back c = came_back (size (first c)) (replicate 1024 0) (size_fits (first c)) c.join_naturals.auto.out
 
-columns-back : (c : tie.After-join_naturals-2) → PartBack (size (first (second c))) (replicate 1024 0) c.join_naturals-2.new.1.1.0
+columns-back : (c : tie.After-join_naturals-2) → PartBack (size (first (second c))) (replicate 1024 0) c.join_naturals-2.new.out
 columns-back c =
     let v = first (second c) in
     came_back (size v) (replicate 1024 0) (size_fits v) c.join_naturals-2.auto.out
 
-weights-back : (c : tie.After-join_integers) → PartBack (size (first (second (third c)))) (replicate 1024 (pos 0)) c.join_integers.new.1.1.0
+weights-back : (c : tie.After-join_integers) → PartBack (size (first (second (third c)))) (replicate 1024 (pos 0)) c.join_integers.new.out
 weights-back c =
     let v = first (second (third c)) in
     came_back (size v) (replicate 1024 (pos 0)) (size_fits v) c.join_integers.auto.out
 
 bounds-back : (c : tie.After-join_integers-2) →
-    PartBack (order (first (second (third (fourth c))))) (replicate 128 (pos 0)) c.join_integers-2.new.1.1.0
+    PartBack (order (first (second (third (fourth c))))) (replicate 128 (pos 0)) c.join_integers-2.new.out
 bounds-back c =
     let v = first (second (third (fourth c))) in
     came_back (order v) (replicate 128 (pos 0)) (order-fits v) c.join_integers-2.auto.out
@@ -96,8 +96,8 @@ module _ (c : tie.After-join_integers-2) where
 
   abbrev built : Graph
   built =
-      graph_of counted.before.doubled_shape.result (front (second (third (fourth c))).join_naturals.new.1.1.0 0)
-      (front (third (fourth c)).join_naturals-2.new.1.1.0 0) (front (fourth c).join_integers.new.1.1.0 (pos 0))
+      graph_of counted.before.doubled_shape.result (front (second (third (fourth c))).join_naturals.new.out 0)
+      (front (third (fourth c)).join_naturals-2.new.out 0) (front (fourth c).join_integers.new.out (pos 0))
 
   graph-built : built ≡ doubled (graph (begun counted))
   graph-built =
@@ -108,10 +108,10 @@ module _ (c : tie.After-join_integers-2) where
       same_graph (graph (begun counted)) d.0 d.1 d.2 d.3 ((rows_back rows).same ∙ rows.join_naturals.ensures)
       ((columns-back columns).same ∙ columns.join_naturals-2.ensures) ((weights-back weights).same ∙ weights.join_integers.ensures)
 
-  abbrev builtBounds : List ℤ
-  builtBounds = take (order counted) (c.join_integers-2.new.1.1.0 ++ drop (order counted) (replicate 128 (pos 0)))
+  abbrev built_bounds : List ℤ
+  built_bounds = take (order counted) (c.join_integers-2.new.out ++ drop (order counted) (replicate 128 (pos 0)))
 
-  bounds-built : builtBounds ≡ doubled_bounds (begun counted).args.bound.now
+  bounds-built : built_bounds ≡ doubled_bounds (begun counted).args.bound.now
   bounds-built = (bounds-back c).same ∙ c.join_integers-2.ensures
 
 -- ---- the needs

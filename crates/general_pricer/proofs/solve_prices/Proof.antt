@@ -9,14 +9,14 @@ use Rattle.general_pricer.proofs.solve_prices.Statement.{statement}
 use Rattle.general_pricer.proofs.solve_prices.Tie as tie
 
 -- The array has room for the index.
-room : (c : tie.After-fill_index) → c.index_numbers-k.result ≤ length c.fill_index.new.1.1.1.0
+room : (c : tie.After-fill_index) → c.index_numbers-k.result ≤ length c.fill_index.new.index
 room c =
     let counted = c in
     let sizes = counted.requires.0.passed.sound.sizes in
     omega (arith, counted.index_numbers-k.ensures, sizes.order, sizes.few, c.fill_index.auto.index)
 
 slice-aggregate-optimise : tie.Need-slice_bounds-optimise-end
-slice-aggregate-optimise c = let filled = c in first_long _ filled.fill_index.new.1.1.1.0 (room filled.before.before)
+slice-aggregate-optimise c = let filled = c in first_long _ filled.fill_index.new.index (room filled.before.before)
 
 slice-aggregate-optimise-2 : tie.Need-slice_bounds-optimise-end-2
 slice-aggregate-optimise-2 c = zeros-lent 0 1024 c.requires.0.passed.sound.sizes.few
@@ -30,7 +30,7 @@ optimise-requires c κs =
     let sound = P.0.passed.sound in (
       P.0,
       (
-        index_first a.s a.row.now a.column.now a.weight.now filled.fill_index.new.1.1.1.0 sound
+        index_first a.s a.row.now a.column.now a.weight.now filled.fill_index.new.index sound
             c.index_numbers-k.ensures (room filled.before.before.before.before.before.before) filled.fill_index.ensures,
         (P.1.0, ((P.1.1.0, P.1.1.1, sound.sizes.few), zeros-first 0 1024 sound.sizes.few)),
       ),

@@ -31,10 +31,10 @@ size c = (begun c).args.d.edges
 few : (c : tie.After-solve_prices) → order c ≤ 128
 few c = omega (arith, (counted c).vertex_count-n.ensures, (begun c).requires.0.passed.sound.sizes.order)
 
-vertices-back : (c : tie.After-solve_prices) → PartBack (order c) (zeros 128) c.solve_prices.new.1.1.1.1.1.0
+vertices-back : (c : tie.After-solve_prices) → PartBack (order c) (zeros 128) c.solve_prices.new.vertex_price
 vertices-back c = came_back (order c) (zeros 128) (few c) c.solve_prices.auto.vertex_price
 
-edges-back : (c : tie.After-solve_prices) → PartBack (size c) (zeros 1024) c.solve_prices.new.1.1.1.1.1.1.0
+edges-back : (c : tie.After-solve_prices) → PartBack (size c) (zeros 1024) c.solve_prices.new.edge_price
 edges-back c = came_back (size c) (zeros 1024) (begun c).requires.0.passed.sound.sizes.few c.solve_prices.auto.edge_price
 
 slice-aggregate-solve-prices : tie.Need-slice_bounds-solve_prices-end

@@ -12,24 +12,24 @@ use Rattle.graph_writer.proofs.put_own.Tie as tie
 abbrev begun : tie.After-fill_own → tie.Start
 begun c = c.before.before.before.before.before.before
 
-room : (c : tie.After-fill_own) → (begun c).args.s.edges ≤ length c.fill_own.new.0
+room : (c : tie.After-fill_own) → (begun c).args.s.edges ≤ length c.fill_own.new.order
 room c = omega (arith, (begun c).requires.1.sound.sizes.few, c.fill_own.auto.order, length-replicate {A = ℕ} 1024 0)
 
 slice-aggregate-put-graph : tie.Need-slice_bounds-put_graph-end
 slice-aggregate-put-graph c =
     let t = c in
-    first_long (begun t.before.before.before).args.s.edges t.fill_own.new.0 (room t.before.before.before)
+    first_long (begun t.before.before.before).args.s.edges t.fill_own.new.order (room t.before.before.before)
 
 put-graph-requires : tie.Need-put_graph-requires
 put-graph-requires c κs =
     let t = c in
-    ((begun t.before.before.before).requires.0, own_ordered (begun t.before.before.before).requires.1 t.fill_own.new.0 (room t.before.before.before) t.fill_own.ensures)
+    ((begun t.before.before.before).requires.0, own_ordered (begun t.before.before.before).requires.1 t.fill_own.new.order (room t.before.before.before) t.fill_own.ensures)
 
 returns : tie.Need-returns
 returns c =
     let at-put-graph = c in
     let t = at-put-graph in
-    own_written (begun t.before.before.before.before.before.before).requires.1 t.fill_own.new.0 (room t.before.before.before.before.before.before) t.fill_own.ensures at-put-graph.put_graph.ensures
+    own_written (begun t.before.before.before.before.before.before).requires.1 t.fill_own.new.order (room t.before.before.before.before.before.before) t.fill_own.ensures at-put-graph.put_graph.ensures
 
 pub put_own_spec : {M : Type 1} → statement M
 put_own_spec =

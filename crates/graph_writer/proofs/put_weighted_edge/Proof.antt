@@ -16,8 +16,8 @@ use Rattle.graph_writer.proofs.put_weighted_edge.Tie as tie
 abbrev row_of : tie.Start → ℕ
 row_of s = get_or s.args.row.now s.args.e 0
 
-abbrev columnOf : tie.Start → ℕ
-columnOf s = get_or s.args.column.now s.args.e 0
+abbrev column_of : tie.Start → ℕ
+column_of s = get_or s.args.column.now s.args.e 0
 
 abbrev weight_of : tie.Start → ℤ
 weight_of s = get_or s.args.weight.now s.args.e (pos 0)
@@ -29,7 +29,7 @@ begun c = c.before.before.before.before.before.before.before.before.before.befor
 weighed : (c : tie.After-put_signed-end) →
     let s = begun c in
     let p = c.put_signed-end in
-    Part s.args.out.now s.args.at (ends (row_of s) (columnOf s) ++ signed (weight_of s)) p.new.0 p.result (s.args.at + 21 + 21 + 21)
+    Part s.args.out.now s.args.at (ends (row_of s) (column_of s) ++ signed (weight_of s)) p.new.out p.result (s.args.at + 21 + 21 + 21)
 weighed c =
     let w = c in
     let second = w in
@@ -48,13 +48,13 @@ cast-put-field-2 c = omega (arith, c.shared_slice_known-4-1.given c.args.e)
 same_length : tie.Need-shape_of-out
 same_length c =
     let t = c in
-    length-set t.put_signed-end.new.0 t.put_signed-end.result 10 ∙ (weighed t.before.before).long
+    length-set t.put_signed-end.new.out t.put_signed-end.result 10 ∙ (weighed t.before.before).long
 
 returns : tie.Need-returns
 returns c =
     let t = c in
     let s = begun t.before.before in
-    line_put s.requires.0 (row_of s) (columnOf s) (weight_of s) (weighed t.before.before)
+    line_put s.requires.0 (row_of s) (column_of s) (weight_of s) (weighed t.before.before)
 
 pub put_weighted_edge_spec : {M : Type 1} → statement M
 put_weighted_edge_spec =

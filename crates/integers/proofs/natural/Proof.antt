@@ -11,9 +11,9 @@ use Rattle.integers.specs.Integer.{up}
 use Rattle.integers.proofs.natural.Statement.{statement}
 use Rattle.integers.proofs.natural.Tie as tie
 
-natAbs-up : {z : ℤ} → pos 0 ≤ℤ z → nat_abs z ≡ up z
-natAbs-up {z = pos n} h = refl
-natAbs-up {z = negsuc n} h = absurd h.le
+nat_abs-up : {z : ℤ} → pos 0 ≤ℤ z → nat_abs z ≡ up z
+nat_abs-up {z = pos n} h = refl
+nat_abs-up {z = negsuc n} h = absurd h.le
 
 fit : (c : tie.Start) → T (non_neg c.args.x) × Fits w32 (nat_abs c.args.x)
 fit c = (
@@ -25,7 +25,7 @@ cast-result : tie.Need-overflow_cast-result
 cast-result c = simp (to_z-of_z w32 c.args.x c.ranges.x) (fit c)
 
 returns : tie.Need-returns
-returns c = simp (to_z-of_z w32 c.args.x c.ranges.x) (pos-nat_abs _ (yes_non_neg c.requires), natAbs-up c.requires)
+returns c = simp (to_z-of_z w32 c.args.x c.ranges.x) (pos-nat_abs _ (yes_non_neg c.requires), nat_abs-up c.requires)
 
 pub natural_spec : {M : Type 1} → statement M
 natural_spec = tie.close (tie.spec

@@ -30,8 +30,8 @@ prices s =
     prices_of s.args.vertex_price.now s.args.edge_price.now s.args.sets s.args.set_price.now s.args.set_vertices.now
     s.args.set_edges.now
 
-abbrev oddSets : tie.Start → Test
-oddSets s = set_test (graph s) s.args.bound.now (prices s)
+abbrev odd_sets : tie.Start → Test
+odd_sets s = set_test (graph s) s.args.bound.now (prices s)
 
 abbrev covers : tie.Start → Test
 covers s = cover_test (graph s) (prices s)
@@ -54,7 +54,7 @@ prices-say c =
 
 decide : (c : tie.In_default) {v : Outcome Measures} →
     let s = start c.before in
-    v ≡ passing (oddSets s ∷ covers s ∷ []) (answer s) → v ≡ yields_later (graph s) s.args.bound.now s.args.chosen.now (prices s)
+    v ≡ passing (odd_sets s ∷ covers s ∷ []) (answer s) → v ≡ yields_later (graph s) s.args.bound.now s.args.chosen.now (prices s)
 decide c e =
     let p = c in
     let s = start p.before in
@@ -64,7 +64,7 @@ decide c e =
 abbrev start2 : tie.After-lowest_set → tie.Start
 start2 c = start c.before.before.before
 
-set-say : (c : tie.After-lowest_set) {m : Lowest} → c.lowest_set.result ≡ m → lowest (oddSets (start2 c)).items (oddSets (start2 c)).keeps ≡ lowest_says m
+set-say : (c : tie.After-lowest_set) {m : Lowest} → c.lowest_set.result ≡ m → lowest (odd_sets (start2 c)).items (odd_sets (start2 c)).keeps ≡ lowest_says m
 set-say c is =
     let s = start2 c in
     let t = c.load_table-load in
@@ -80,7 +80,7 @@ refused-measure-requires : tie.Need-refused_measure-requires
 refused-measure-requires c κs =
     let l = c in
     let s = start2 l.before in
-    place_fits (oddSets s).items (oddSets s).keeps (set-say l.before c.in-At.is) (omega arith)
+    place_fits (odd_sets s).items (odd_sets s).keeps (set-say l.before c.in-At.is) (omega arith)
 
 returns-2 : tie.Need-returns-in-At
 returns-2 c =
@@ -89,7 +89,7 @@ returns-2 c =
     ap measure_says c.refused_measure.ensures
     ∙ ap told
     (ap (refuses OddSet) (add-one _)
-    ∙ decide l.before.before.before.before (first_refuses (oddSets s) (covers s) (answer s) (set-say l.before.before c.in-At.is)))
+    ∙ decide l.before.before.before.before (first_refuses (odd_sets s) (covers s) (answer s) (set-say l.before.before c.in-At.is)))
 
 covered-table-requires : tie.Need-covered_table-covered-requires
 covered-table-requires c κs =
@@ -133,7 +133,7 @@ returns-3 c =
     let s = start2 l.before.before.before in
     c.measure_tabled.ensures
     ∙ ap told
-    (decide l.before.before.before.before.before (sym (passing-none (oddSets s) (covers s ∷ []) (answer s) (set-say l.before.before.before c.in_default-lowest_set.is))))
+    (decide l.before.before.before.before.before (sym (passing-none (odd_sets s) (covers s ∷ []) (answer s) (set-say l.before.before.before c.in_default-lowest_set.is))))
 
 pub measure_passed_spec : {M : Type 1} → statement M
 measure_passed_spec =

@@ -42,7 +42,7 @@ uncovered-say : (c : tie.After-lowest_uncovered) {m : Lowest} → c.lowest_uncov
 uncovered-say c is =
     let s = start c in
     let t = c.cover_table in
-    cover_say (graph s) s.args.bound.now s.args.chosen.now (prices s) t.new.1.1.1.1.1.1.1.1.1.0 t.ensures c.lowest_uncovered.ensures is
+    cover_say (graph s) s.args.bound.now s.args.chosen.now (prices s) t.new.table t.ensures c.lowest_uncovered.ensures is
 
 refused-measure-requires : tie.Need-refused_measure-requires
 refused-measure-requires c κs =
@@ -77,7 +77,7 @@ returns-2 c =
     let s = start u.before.before.before in
     let t = c.cover_table in
     ap told
-    (ap yields (c.numbers.ensures ∙ measures-by (graph s) s.args.bound.now s.args.chosen.now (prices s) t.new.1.1.1.1.1.1.1.1.1.0 s.requires.1 t.ensures)
+    (ap yields (c.numbers.ensures ∙ measures-by (graph s) s.args.bound.now s.args.chosen.now (prices s) t.new.table s.requires.1 t.ensures)
     ∙ sym (passing-none (covers s) [] (answer s) (uncovered-say u.before.before.before c.in_default.is)))
 
 pub measure_tabled_spec : {M : Type 1} → statement M

@@ -17,18 +17,18 @@ use borrow.Author.Rules.{rules}
 use Rattle.method.proofs.value_at.Statement.{statement}
 use Rattle.method.proofs.value_at.Tie as tie
 
-abbrev twoLevels : ℤ
-twoLevels = pos (weightless)
+abbrev two_levels : ℤ
+two_levels = pos (weightless)
 
-fit : (z : ℤ) → Within greatest_weight z → SFits w32 (z +ℤ twoLevels)
-fit z l = fits_within w32 (z +ℤ twoLevels) {n = top_value} (go (z +ℤ twoLevels) (up-add z twoLevels)) (lit< tt)
+fit : (z : ℤ) → Within greatest_weight z → SFits w32 (z +ℤ two_levels)
+fit z l = fits_within w32 (z +ℤ two_levels) {n = top_value} (go (z +ℤ two_levels) (up-add z two_levels)) (lit< tt)
   where
     go : (y : ℤ) → up y + (dn z + 0) ≡ (up z + weightless) + dn y → up y + dn y ≤ top_value
     go (pos n) e = omega arith
     go (negsuc n) e = absurd (omega arith)
 
-through : (z : ℤ) → mag z < 2 ^ hbits w32 → SFits w32 (z +ℤ twoLevels) → to_z w32 (of_z w32 (to_z w32 (of_z w32 z) +ℤ twoLevels)) ≡ z +ℤ twoLevels
-through z h f = simp (back w32 z h, to_z-of_z w32 (z +ℤ twoLevels) f)
+through : (z : ℤ) → mag z < 2 ^ hbits w32 → SFits w32 (z +ℤ two_levels) → to_z w32 (of_z w32 (to_z w32 (of_z w32 z) +ℤ two_levels)) ≡ z +ℤ two_levels
+through z h f = simp (back w32 z h, to_z-of_z w32 (z +ℤ two_levels) f)
 
 add-natural-part : tie.Need-overflow_add-weight
 add-natural-part c =

@@ -1,4 +1,5 @@
 -- `read_number_lines` reads the header and the size line, and then the later lines.
+use mathlib.Core.Bool.{not}
 use mathlib.Core.Path.{sym, ap, ◌∙◌}
 use mathlib.Core.List.{[]}
 use Rattle.graph.specs.declared.Fault.TheVariants.{Header}
@@ -35,7 +36,7 @@ returns c =
     let L = number_layout args.rules args.what args.count in
     read_refused _
     (header-stops L at-header-line.header_line.ensures at-start.in-At.is Header
-    (header-wrong _ is-header.ensures c.if-not-is_header.true) c.refused_at.ensures)
+    (header-wrong _ is-header.ensures (ap not c.if-not-is_header.true)) c.refused_at.ensures)
 
 size-line-requires : tie.Need-size_line-requires
 size-line-requires c κs =
@@ -70,7 +71,7 @@ read-values-requires c κs =
     let start = at-header-line in
     let L = number_layout start.args.rules start.args.what start.args.count in
     let w = header-goes L at-header-line.header_line.ensures at-start.in-At.is tt
-    (header-right _ at-is-header.is_header.ensures at-if1.if-not-is_header.false) in (
+    (header-right _ at-is-header.is_header.ensures (ap not at-if1.if-not-is_header.false)) in (
       size_goes L w at-size-line.size_line.ensures at-start2.in-At-size_line.is []
           (sym at-count-on.count_on.ensures ∙ ap count_says c.in-Right.is),
       start.requires,
@@ -92,7 +93,7 @@ returns-3 c =
     let args = at-header-line.args in
     let L = number_layout args.rules args.what args.count in
     let w = header-goes L at-header-line.header_line.ensures at-start.in-At.is tt
-    (header-right _ at-is-header.is_header.ensures at-if1.if-not-is_header.false) in
+    (header-right _ at-is-header.is_header.ensures (ap not at-if1.if-not-is_header.false)) in
     read_refused _ (size_refused L w at-size-line.size_line.ensures c.in-Refused-size_line.is)
 
 returns-4 : tie.Need-returns-in-Refused-count_on
@@ -108,7 +109,7 @@ returns-4 c =
     let args = at-header-line.args in
     let L = number_layout args.rules args.what args.count in
     let w = header-goes L at-header-line.header_line.ensures at-start.in-At.is tt
-    (header-right _ at-is-header.is_header.ensures at-if1.if-not-is_header.false) in
+    (header-right _ at-is-header.is_header.ensures (ap not at-if1.if-not-is_header.false)) in
     read_refused _
     (size_stops L w at-size-line.size_line.ensures at-start2.in-At-size_line.is _
     (sym at-count-on.count_on.ensures ∙ ap count_says fault.is) c.refused_at-in-Refused-count_on.ensures)

@@ -19,7 +19,7 @@ abbrev numbers : tie.Start invariant-loop decreases-loop → List ℤ
 numbers s = s.args.values.now
 
 -- There is a byte after the number.
-line-fits : (c : tie.After-put_signed-end invariant-loop decreases-loop) → c.put_signed-end.result + 1 ≤ length c.put_signed-end.new.0
+line-fits : (c : tie.After-put_signed-end invariant-loop decreases-loop) → c.put_signed-end.result + 1 ≤ length c.put_signed-end.new.out
 line-fits c =
     let t = c in
     let l = t in

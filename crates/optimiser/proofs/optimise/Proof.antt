@@ -1,4 +1,6 @@
 -- `optimiser::optimise` meets its contract: the first prices fit no edge chosen, serving keeps that, and its end is a solution.
+use mathlib.Core.Bool.{not}
+use mathlib.Core.Path.{ap}
 use native.Mathlib.Omega.{arith}
 use Rattle.graph.specs.Limits.{most_vertices}
 use Rattle.graph.specs.Graph.{graph_of}
@@ -24,7 +26,7 @@ made-from c = c.before.before.before.before.before.before.before.before.before.b
 abbrev lent-to : tie.After-serve_rows-served → Made
 lent-to c = c.before.before.before.before.before.before.before.before.before.before.before
 
-tabled : (c : Made) → BoundsTabled (made-from c).args.bound.now c.begin_lists.new.1.1.1.1.1.0
+tabled : (c : Made) → BoundsTabled (made-from c).args.bound.now c.begin_lists.new.table
 tabled c =
     let at-keep-rows = c in
     let same = bounds_kept at-keep-rows.keep_rows.ensures.1.0 c.begin_lists.ensures in
@@ -79,7 +81,7 @@ returns c =
     let table = tabled made in
     let args = start.args in
     let g = graph_of args.s args.row.now args.column.now args.weight.now in
-    let ill = went_ill at-serve-rows.serve_rows-served.result c.if-not-served.true in
+    let ill = went_ill at-serve-rows.serve_rows-served.result (ap not c.if-not-served.true) in
     let meets = nothing_meets g later.1.1 (λ v l. table.least v (omega (arith, few pre.0))) in
     absurd (at-serve-rows.serve_rows-served.ensures.none ill args.chosen.now meets)
 
@@ -88,7 +90,7 @@ edge-prices-requires c κs =
     let at-if1 = c in
     let at-serve-rows = at-if1 in
     let pre = (made-from (lent-to at-serve-rows.before.before.before.before.before.before)).requires in
-    let served = at-serve-rows.serve_rows-served.ensures.served (went_well at-serve-rows.serve_rows-served.result at-if1.if-not-served.false) in
+    let served = at-serve-rows.serve_rows-served.ensures.served (went_well at-serve-rows.serve_rows-served.result (ap not at-if1.if-not-served.false)) in
     (payable pre.0.passed served.between.good, pre.1.1.1.0.1)
 
 vertex-prices-requires : tie.Need-vertex_prices-requires
@@ -100,7 +102,7 @@ vertex-prices-requires c κs =
     let pre = start.requires in
     let later = pre.1.1 in
     let table = tabled made in
-    let served = at-serve-rows.serve_rows-served.ensures.served (went_well at-serve-rows.serve_rows-served.result at-if1.if-not-served.false) in
+    let served = at-serve-rows.serve_rows-served.ensures.served (went_well at-serve-rows.serve_rows-served.result (ap not at-if1.if-not-served.false)) in
     let good = served.between.good in
     let long = later.1.0.0 in (
       omega (arith, long, few pre.0),
@@ -118,7 +120,7 @@ returns-2 c =
     let pre = start.requires in
     let later = pre.1.1 in
     let table = tabled made in
-    let served = at-serve-rows.serve_rows-served.ensures.served (went_well at-serve-rows.serve_rows-served.result at-if1.if-not-served.false) in
+    let served = at-serve-rows.serve_rows-served.ensures.served (went_well at-serve-rows.serve_rows-served.result (ap not at-if1.if-not-served.false)) in
     let long = later.1.0.0 in
     let vertex = at-vertex-prices.vertex_prices.ensures in
     solved pre.0 later.0 (λ v l. table.least v (omega (arith, few pre.0))) (λ v l. table.most v (omega (arith, later.0.long))) served.between.good

@@ -25,13 +25,13 @@ words m =
 abbrev start1 : tie.After-put_named-at → tie.Start
 start1 c = c.before.before.before.before.before.before
 
-line1 : (c : tie.After-put_named-at) → Words (start1 c).args.out.now (take 2 (words (start1 c).args.m)) c.put_named-at.new.0 c.put_named-at.result 27
+line1 : (c : tie.After-put_named-at) → Words (start1 c).args.out.now (take 2 (words (start1 c).args.m)) c.put_named-at.new.out c.put_named-at.result 27
 line1 c = first_number (bytes "merit") (start1 c).args.m.weight c.struct_told-1.given.0.1 c.put_named-at.ensures (omega (arith, (start1 c).requires))
 
 abbrev start2 : tie.After-put_named-at-2 → tie.Start
 start2 c = start1 c.before.before.before.before.before.before.before
 
-line2 : (c : tie.After-put_named-at-2) → Words (start2 c).args.out.now (take 4 (words (start2 c).args.m)) c.put_named-at-2.new.0 c.put_named-at-2.result 55
+line2 : (c : tie.After-put_named-at-2) → Words (start2 c).args.out.now (take 4 (words (start2 c).args.m)) c.put_named-at-2.new.out c.put_named-at-2.result 55
 line2 c =
     let at-put-named = c in
     next-number (bytes "total") (start2 c).args.m.total c.struct_told-2-1.given.1.0.1 (line1 at-put-named.before.before.before.before.before.before.before) c.put_named-at-2.ensures
@@ -40,7 +40,7 @@ line2 c =
 abbrev start3 : tie.After-put_named-at-3 → tie.Start
 start3 c = start2 c.before.before.before.before.before.before.before
 
-line3 : (c : tie.After-put_named-at-3) → Words (start3 c).args.out.now (take 6 (words (start3 c).args.m)) c.put_named-at-3.new.0 c.put_named-at-3.result 82
+line3 : (c : tie.After-put_named-at-3) → Words (start3 c).args.out.now (take 6 (words (start3 c).args.m)) c.put_named-at-3.new.out c.put_named-at-3.result 82
 line3 c =
     let at-put-named2 = c in
     next-number (bytes "fish") (start3 c).args.m.vertices c.struct_told-3-1.given.1.1.0.1 (line2 at-put-named2.before.before.before.before.before.before.before)
@@ -49,7 +49,7 @@ line3 c =
 abbrev start4 : tie.After-put_named-at-4 → tie.Start
 start4 c = start3 c.before.before.before.before.before.before.before
 
-line4 : (c : tie.After-put_named-at-4) → Words (start4 c).args.out.now (take 8 (words (start4 c).args.m)) c.put_named-at-4.new.0 c.put_named-at-4.result 111
+line4 : (c : tie.After-put_named-at-4) → Words (start4 c).args.out.now (take 8 (words (start4 c).args.m)) c.put_named-at-4.new.out c.put_named-at-4.result 111
 line4 c =
     let at-put-named3 = c in
     next-number (bytes "groups") (start4 c).args.m.sets c.struct_told-4-1.given.1.1.1.0.1 (line3 at-put-named3.before.before.before.before.before.before.before)
@@ -59,7 +59,7 @@ abbrev start5 : tie.After-put_named-at-5 → tie.Start
 start5 c = start4 c.before.before.before.before.before.before.before
 
 line5 : (c : tie.After-put_named-at-5) →
-    Words (start5 c).args.out.now (take 10 (words (start5 c).args.m)) c.put_named-at-5.new.0 c.put_named-at-5.result 139
+    Words (start5 c).args.out.now (take 10 (words (start5 c).args.m)) c.put_named-at-5.new.out c.put_named-at-5.result 139
 line5 c =
     let at-put-named4 = c in
     next-number (bytes "pairs") (start5 c).args.m.edges c.struct_told-5-1.given.1.1.1.1.0.1 (line4 at-put-named4.before.before.before.before.before.before.before)
@@ -69,7 +69,7 @@ abbrev start6 : tie.After-put_named-at-6 → tie.Start
 start6 c = start5 c.before.before.before.before.before.before.before
 
 line6 : (c : tie.After-put_named-at-6) →
-    Words (start6 c).args.out.now (take 12 (words (start6 c).args.m)) c.put_named-at-6.new.0 c.put_named-at-6.result 167
+    Words (start6 c).args.out.now (take 12 (words (start6 c).args.m)) c.put_named-at-6.new.out c.put_named-at-6.result 167
 line6 c =
     let at-put-named5 = c in
     next-number (bytes "cover") (start6 c).args.m.cover c.struct_told-6-1.given.1.1.1.1.1.0.1 (line5 at-put-named5.before.before.before.before.before.before.before)
@@ -79,7 +79,7 @@ abbrev start7 : tie.After-put_named-at-7 → tie.Start
 start7 c = start6 c.before.before.before.before.before.before.before
 
 line7 : (c : tie.After-put_named-at-7) →
-    Words (start7 c).args.out.now (take 14 (words (start7 c).args.m)) c.put_named-at-7.new.0 c.put_named-at-7.result 193
+    Words (start7 c).args.out.now (take 14 (words (start7 c).args.m)) c.put_named-at-7.new.out c.put_named-at-7.result 193
 line7 c =
     let at-put-named6 = c in
     next-number (bytes "gap") (start7 c).args.m.gap c.struct_told-7-1.given.1.1.1.1.1.1.0.1 (line6 at-put-named6.before.before.before.before.before.before.before)

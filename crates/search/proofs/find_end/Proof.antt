@@ -1,7 +1,7 @@
 -- `search::find_end` meets its contract. The outer loop keeps the search's state, and the inner one which edges of the vertex settled last were looked at.
 use Prim.Native.Nat.{ℕ, ◌-◌, ◌≤◌, ◌<◌}
 use mathlib.Core.Path.{◌≡◌, sym, ap, ◌∙◌}
-use mathlib.Core.Logic.{◌≢◌, ⊎_elim}
+use mathlib.Core.Logic.{◌≢◌}
 use mathlib.Core.List.{List}
 use native.Mathlib.Omega.{arith}
 use lib.ListN.{length, length-replicate}
@@ -21,6 +21,7 @@ use Rattle.search.proofs.Exits as Exits
 use Rattle.search.proofs.Spans.{spanned}
 use Rattle.search.proofs.Growth as Growth
 use Rattle.search.proofs.find_end.Statement.{statement}
+use Rattle.search.proofs.find_end.Lts.{then-loop-k-test+then-f, else-loop-k-test+then-at-f}
 use Rattle.search.proofs.find_end.Tie as tie
 
 abbrev invariant-loop : tie.invariant-loop-k
@@ -162,16 +163,16 @@ left_at c =
     let start = begun (turn (left c)) in
     let inv = c.loop-k.invariant in
     let r = inv.0 in
-    ⊎_elim
-    (λ w.
-    let turned = Growth.turned (given start) (known start) (far-exits start) (gains start) r w.0.taken w.9.ensures in
-    (Growth.left_as w.12 w.13 w.14 w.15 w.16 (Growth.ends_early turned w.11.taken), ap (λ (z : Tree). z.end) w.15 ∙ inv.1))
-    (λ w.
-    let all = Growth.looked_all (given start) (known start) (far-exits start) (gains start) r (rooted start).near (exits start) (omega (arith, w.0.left)) in (
-      Growth.left_as w.6 w.7 w.8 w.9 w.10 (Growth.ends_last (net start) r w.3.ensures all w.5.taken),
-      ap (λ (z : Tree). z.end) w.9 ∙ inv.1,
-    ))
-    c.loop-k-test.branch
+    elim c.loop-k-test.branch [
+      | then-loop-k-test+then-f w ↦
+          let turned = Growth.turned (given start) (known start) (far-exits start) (gains start) r w.loop-k-test.true w.look-f.ensures in
+          (Growth.left_as w.order-is w.f-is w.distance-is w.t-is w.end-is (Growth.ends_early turned w.if-f.true), ap (λ (z : Tree). z.end) w.t-is ∙ inv.1)
+      | else-loop-k-test+then-at-f w ↦
+          let all = Growth.looked_all (given start) (known start) (far-exits start) (gains start) r (rooted start).near (exits start) (omega (arith, w.loop-k-test.false)) in (
+            Growth.left_as w.order-is w.f-is w.distance-is w.t-is w.end-is (Growth.ends_last (net start) r w.nearest-at.ensures all w.if-at-f.true),
+            ap (λ (z : Tree). z.end) w.t-is ∙ inv.1,
+          )
+    ]
 
 element-copy-out-root : tie.Need-bounds-order-0 invariant-loop decreases-loop invariant-search decreases-search
 element-copy-out-root c = omega arith
@@ -248,7 +249,7 @@ add-base c =
     let at-scan = c in
     let at-search = turn at-scan.before.before.before.before in
     let start = begun at-search in
-    let s = at-search.search.inv.0 in
+    let s = at-search.search.invariant.0 in
     omega (
       arith,
       at-scan.scan_column-f.ensures.1.1,
@@ -282,7 +283,7 @@ loop-holds c =
     let at-scan = c in
     let at-search = turn at-scan.before.before.before.before.before.before.before.before.before in
     let start = begun at-search in
-    let inv = at-search.search.inv in
+    let inv = at-search.search.invariant in
     let after = at-scan.scan_column-f.ensures in
     let s = after.0 (Growth.column_scan (given start) (known start) (near-exits start) inv.0) in
     (Growth.row_begun {v = at-search.search.f.vertex} (given start) (known start) after.1.0 s c.pick-last.ensures, inv.1)
@@ -294,7 +295,7 @@ mul-e : tie.Need-offset_bounds-arc-at invariant-loop decreases-loop invariant-se
 mul-e c = omega (arith, place-low (c))
 
 element-copy-out-e : tie.Need-bounds-arc-at invariant-loop decreases-loop invariant-search decreases-search
-element-copy-out-e c = omega (arith, place-low (c))
+element-copy-out-e c = omega (arith, place-low c.before)
 
 add-look : tie.Need-overflow_add-at-in-loop-k invariant-loop decreases-loop invariant-search decreases-search
 add-look c = omega (arith, place-low c.before.before.before.before.before)

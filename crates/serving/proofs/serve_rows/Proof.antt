@@ -1,7 +1,7 @@
 -- `optimiser::serve_rows` meets its contract and ends: each search lowers what is left of its root, and then the next root follows.
 use Prim.Native.Nat.{ℕ, ◌<◌}
-use mathlib.Core.Path.{◌≡◌, refl}
-use mathlib.Core.Bool.{true≢false, false≢true}
+use mathlib.Core.Path.{◌≡◌, refl, ap}
+use mathlib.Core.Bool.{true≢false, false≢true, not}
 use native.Mathlib.Omega.{arith}
 use lib.ListN.{length, length-set}
 use Rattle.graph.specs.Limits.{most_vertices}
@@ -122,7 +122,7 @@ returns : tie.Need-returns-then-not-found invariant-loop decreases-loop
 returns c =
     let at-search = c in
     let sought = at-search.search-found.ensures in
-    record { served = λ e. absurd (false≢true e); none = λ e. sought.0.none (went_ill at-search.search-found.result c.if-not-found.true) }
+    record { served = λ e. absurd (false≢true e); none = λ e. sought.0.none (went_ill at-search.search-found.result (ap not c.if-not-found.true)) }
 
 loop-less : tie.Need-loop-i-smaller-else-not-found invariant-loop decreases-loop
 loop-less c =
@@ -134,7 +134,7 @@ loop-less c =
     let inv = inside.loop-i.invariant in
     let root_is = rooted (root-near inside.before.before.before.before.before.before.before.before.before.before.before.before.before.before) (root_in inside.before.before.before.before.before.before.before.before.before.before.before.before.before.before) inv.2.between at-is-unserved.is_unserved.ensures at-if1.if-is_unserved.true in
     let sought = at-search.search-found.ensures in
-    let got = sought.0.found (went_well at-search.search-found.result c.if-not-found.false) in
+    let got = sought.0.found (went_well at-search.search-found.result (ap not c.if-not-found.false)) in
     let found = Serving.sought_first inside.loop-i.order (root inside.before.before.before.before.before.before.before.before.before.before.before.before.before.before) inv.3.order_long got in
     Serving.left-fewer start.requires.1.0 inside.loop-i-test.true (rows_in start.requires.0.net) inv.2.between root_is found
 
@@ -148,7 +148,7 @@ loop-again c =
     let inv = inside.loop-i.invariant in
     let root_is = rooted (root-near inside.before.before.before.before.before.before.before.before.before.before.before.before.before.before) (root_in inside.before.before.before.before.before.before.before.before.before.before.before.before.before.before) inv.2.between at-is-unserved.is_unserved.ensures at-if1.if-is_unserved.true in
     let sought = at-search.search-found.ensures in
-    let got = sought.0.found (went_well at-search.search-found.result c.if-not-found.false) in
+    let got = sought.0.found (went_well at-search.search-found.result (ap not c.if-not-found.false)) in
     let found = Serving.sought_first inside.loop-i.order (root inside.before.before.before.before.before.before.before.before.before.before.before.before.before.before) inv.3.order_long got in
     let kept = at-search.search-found.auto.1.1.1.1.1.1 in (
       omega (arith, kept.0, inv.0),

@@ -19,7 +19,7 @@ returns : tie.Need-returns-then-not-nothing_above
 returns c =
     let s = c in
     let a = c.nothing_above in
-    above_breaks (g s.before.before.before.before.before.before) (O s.before.before.before.before.before.before) s.args.k s.args.load (sym a.ensures ∙ not-true a.result c.if-not-nothing_above.true)
+    above_breaks (g s.before.before.before.before.before.before) (O s.before.before.before.before.before.before) s.args.k s.args.load (sym a.ensures ∙ c.if-not-nothing_above.true)
 
 returns-2 : tie.Need-returns-then-not-has_vertex
 returns-2 c =
@@ -27,8 +27,8 @@ returns-2 c =
     let s = c in
     let a = c.nothing_above in
     let v = c.has_vertex in
-    vertex_breaks (g s.before.before.before.before.before.before.before.before) (O s.before.before.before.before.before.before.before.before) s.args.k s.args.load (sym a.ensures ∙ not-false a.result if1.false)
-    (sym v.ensures ∙ not-true v.result c.if-not-has_vertex.true)
+    vertex_breaks (g s.before.before.before.before.before.before.before.before) (O s.before.before.before.before.before.before.before.before) s.args.k s.args.load (sym a.ensures ∙ if1.false)
+    (sym v.ensures ∙ c.if-not-has_vertex.true)
 
 returns-3 : tie.Need-returns
 returns-3 c =
@@ -38,8 +38,8 @@ returns-3 c =
     let a = at-if1.nothing_above in
     let v = c.has_vertex in
     c.both.ensures
-    ∙ ends_decide (g s.before.before.before.before.before.before.before.before.before.before) (O s.before.before.before.before.before.before.before.before.before.before) s.args.k s.args.load (sym a.ensures ∙ not-false a.result at-if1.if-not-nothing_above.false)
-    (sym v.ensures ∙ not-false v.result if2.false) (sym c.one_end_inside-one_end.ensures)
+    ∙ ends_decide (g s.before.before.before.before.before.before.before.before.before.before) (O s.before.before.before.before.before.before.before.before.before.before) s.args.k s.args.load (sym a.ensures ∙ at-if1.if-not-nothing_above.false)
+    (sym v.ensures ∙ if2.false) (sym c.one_end_inside-one_end.ensures)
 
 pub keeps_rules_spec : {M : Type 1} → statement M
 keeps_rules_spec =

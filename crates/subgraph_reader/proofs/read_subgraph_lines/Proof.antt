@@ -1,4 +1,5 @@
 -- `read_subgraph_lines` reads the header and the size line, and then the later lines.
+use mathlib.Core.Bool.{not}
 use mathlib.Core.Path.{ap, ◌∙◌}
 use mathlib.Core.List.{[]}
 use lib.ListN.{length, length-replicate}
@@ -93,7 +94,7 @@ read-marks-requires c κs =
     let start = at-header-line in
     let g = graph start.before.before.before.before.before.before.before.before.before.before.before.before.before.before.before.before.before.before.before in
     let w = header-goes (subgraph_layout New g) at-header-line.header_line.ensures at-start.in-At.is tt
-    (header-agrees g at-header-kind.header_kind.ensures at-kind.in-Is.is at-same-kind.same_kind.ensures at-if1.if-not-same_kind.false) in
+    (header-agrees g at-header-kind.header_kind.ensures at-kind.in-Is.is at-same-kind.same_kind.ensures (ap not at-if1.if-not-same_kind.false)) in
     let z = start.requires.1 in (
       rw z
           (size_goes (subgraph_layout New g) w at-size-line.size_line.ensures at-start2.in-At-size_line.is _
@@ -119,7 +120,7 @@ returns-4 c =
     let start = at-header-line in
     let g = graph start.before.before.before.before.before.before.before.before.before.before.before.before.before.before.before in
     let w = header-goes (subgraph_layout New g) at-header-line.header_line.ensures at-start.in-At.is tt
-    (header-agrees g at-header-kind.header_kind.ensures at-kind.in-Is.is at-same-kind.same_kind.ensures at-if1.if-not-same_kind.false) in
+    (header-agrees g at-header-kind.header_kind.ensures at-kind.in-Is.is at-same-kind.same_kind.ensures (ap not at-if1.if-not-same_kind.false)) in
     read_refused g _ (size_refused (subgraph_layout New g) w at-size-line.size_line.ensures c.in-Refused-size_line.is)
 
 returns-5 : tie.Need-returns-in-Refused-plan_size_on
@@ -137,7 +138,7 @@ returns-5 c =
     let start = at-header-line in
     let g = graph start.before.before.before.before.before.before.before.before.before.before.before.before.before.before.before.before.before.before.before in
     let w = header-goes (subgraph_layout New g) at-header-line.header_line.ensures at-start.in-At.is tt
-    (header-agrees g at-header-kind.header_kind.ensures at-kind.in-Is.is at-same-kind.same_kind.ensures at-if1.if-not-same_kind.false) in
+    (header-agrees g at-header-kind.header_kind.ensures at-kind.in-Is.is at-same-kind.same_kind.ensures (ap not at-if1.if-not-same_kind.false)) in
     read_refused g _
     (size_stops (subgraph_layout New g) w at-size-line.size_line.ensures at-start2.in-At-size_line.is _
     (size_says start.args.s start.args.row.now start.args.column.now _ at-plan-size-on.plan_size_on.ensures _ fault.is)

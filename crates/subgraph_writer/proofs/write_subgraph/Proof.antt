@@ -44,7 +44,7 @@ returns-2 c =
     let w = answer-subgraph.ensures s.args.weight.now in
     let is = yielded (graph s.before.before.before.before.before.before.before.before.before.before) s.args.chosen.now n k p in
     let long = size (graph s.before.before.before.before.before.before.before.before.before.before) s.args.chosen.now n k p in
-    (answered is long answer-subgraph.new.0 answer-subgraph.result w, filled_in is long answer-subgraph.new.0 answer-subgraph.result w)
+    (answered is long answer-subgraph.new.out answer-subgraph.result w, filled_in is long answer-subgraph.new.out answer-subgraph.result w)
 
 pub write_subgraph_spec : {M : Type 1} → statement M
 write_subgraph_spec =

@@ -16,7 +16,7 @@ begun c = c.before.before.before.before.before.before
 abbrev no_order : List ℕ
 no_order = replicate 1024 0
 
-back : (c : tie.After-sort_edges) → PartBack (begun c).args.s.edges no_order c.sort_edges.new.1.1.1.1.0
+back : (c : tie.After-sort_edges) → PartBack (begun c).args.s.edges no_order c.sort_edges.new.order
 back c = came_back (begun c).args.s.edges no_order (begun c).requires.0.sound.sizes.few c.sort_edges.auto.order
 
 slice-aggregate-sort-edges : tie.Need-slice_bounds-sort_edges-end

@@ -14,7 +14,7 @@ start1 c = c.before.before.before
 
 first : (c : tie.After-put_number) →
     let a = (start1 c).args in
-    Number a.out.now a.at a.m (put_mid a.at (length a.out.now - a.at) a.out.now c.put_number.new.0) c.put_number.result
+    Number a.out.now a.at a.m (put_mid a.at (length a.out.now - a.at) a.out.now c.put_number.new.out) c.put_number.result
 first c =
     let s = start1 c in
     number s.args.out.now s.args.at s.args.m (omega (arith, s.requires)) s.ranges.m.fits c.put_number.ensures
@@ -25,20 +25,20 @@ after1 c = c.before.before.before.before
 second : (c : tie.After-put_number-2) →
     let a = (start1 (after1 c)).args in
     let k = (after1 c).put_number.result in
-    let l = set (put_mid a.at (length a.out.now - a.at) a.out.now (after1 c).put_number.new.0) (a.at + k) 32 in
-    Pair a.out.now a.at a.m a.n (put_mid (a.at + k + 1) (length l - (a.at + k + 1)) l c.put_number-2.new.0) (a.at + k + 1 + c.put_number-2.result)
+    let l = set (put_mid a.at (length a.out.now - a.at) a.out.now (after1 c).put_number.new.out) (a.at + k) 32 in
+    Pair a.out.now a.at a.m a.n (put_mid (a.at + k + 1) (length l - (a.at + k + 1)) l c.put_number-2.new.out) (a.at + k + 1 + c.put_number-2.result)
 second c =
     let s = start1 (after1 c) in
     pair s.requires s.ranges.m.fits s.ranges.n.fits (first (after1 c)) c.put_number-2.ensures
 
 add_a : tie.Need-overflow_add-a
-add_a c = let s = start1 c.before.before in omega (arith, first c.before.before, s.requires, s.good.0.0)
+add_a c = let s = start1 c.before.before in omega (arith, first c.before.before, s.requires, s.well_formed.0.0)
 
 slice-write-out : tie.Need-bounds-out-a
 slice-write-out c = omega (arith, first c.before.before, (start1 c.before.before).requires)
 
 add-b : tie.Need-overflow_add-b
-add-b c = let s = start1 c.before.before in omega (arith, first c.before.before, s.requires, s.good.0.0)
+add-b c = let s = start1 c.before.before in omega (arith, first c.before.before, s.requires, s.well_formed.0.0)
 
 sub-put-number-2 : tie.Need-slice_bounds-put_number-count-2
 sub-put-number-2 c = omega (arith, first c.before.before, (start1 c.before.before).requires)

@@ -15,19 +15,19 @@ start1 c = c.before.before.before
 
 first : (c : tie.After-put_number) →
     let a = (start1 c).args in
-    Number a.out.now a.at a.rows (put_mid a.at (length a.out.now - a.at) a.out.now c.put_number.new.0) c.put_number.result
+    Number a.out.now a.at a.rows (put_mid a.at (length a.out.now - a.at) a.out.now c.put_number.new.out) c.put_number.result
 first c =
     let s = start1 c in
     number s.args.out.now s.args.at s.args.rows (omega (arith, s.requires)) s.ranges.rows.fits c.put_number.ensures
 
 add_a : tie.Need-overflow_add-a
-add_a c = let s = start1 c.before.before in omega (arith, first c.before.before, s.requires, s.good.0.0)
+add_a c = let s = start1 c.before.before in omega (arith, first c.before.before, s.requires, s.well_formed.0.0)
 
 slice-write-out : tie.Need-bounds-out-a
 slice-write-out c = omega (arith, first c.before.before, (start1 c.before.before).requires)
 
 add-put-pair : tie.Need-overflow_add-a-2
-add-put-pair c = let s = start1 c.before.before.before in omega (arith, first c.before.before.before, s.requires, s.good.0.0)
+add-put-pair c = let s = start1 c.before.before.before in omega (arith, first c.before.before.before, s.requires, s.well_formed.0.0)
 
 put-pair-requires : tie.Need-put_pair-requires
 put-pair-requires c κs = omega (arith, first c.before.before.before, (start1 c.before.before.before).requires)

@@ -23,7 +23,7 @@ long c = c.if-out-ne-LONGEST_TEXT.false
 stored : (c : tie.In-Graph-2) →
     let r = c in
     let d = r.read_assignment in
-    GraphStored (lentAssignment (begun r.before.before.before.before.before).args.crosses.now) c.in-Graph.s d.new.1.0 d.new.1.1.0 d.new.1.1.1.0
+    GraphStored (lentAssignment (begun r.before.before.before.before.before).args.crosses.now) c.in-Graph.s d.new.row d.new.column d.new.weight
 stored c =
     let r = c in
     let d = r.read_assignment in

@@ -32,7 +32,7 @@ fits c = omega (arith, (start1 c).requires, c.vertex_count.ensures)
 abbrev counted : tie.After-read_numbers → tie.After-vertex_count
 counted c = c.before.before.before
 
-back : (c : tie.After-read_numbers) → PartBack (count (counted c)) zeros c.read_numbers.new.1.1.1.0
+back : (c : tie.After-read_numbers) → PartBack (count (counted c)) zeros c.read_numbers.new.out
 back c = came-back (count (counted c)) zeros (fits (counted c)) c.read_numbers.auto.out
 
 slice-aggregate-read-numbers : tie.Need-slice_bounds-read_numbers-end

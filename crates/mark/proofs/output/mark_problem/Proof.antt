@@ -19,7 +19,7 @@ graph s = graph_of s.args.s s.args.row.now s.args.column.now s.args.weight.now
 abbrev start1 : tie.After-read_subgraph → tie.Start
 start1 c = c.before.before.before.before.before.before.before.before
 
-back : (c : tie.After-read_subgraph) → PartBack (start1 c).args.s.edges zeros c.read_subgraph.new.1.1.1.1.1.0
+back : (c : tie.After-read_subgraph) → PartBack (start1 c).args.s.edges zeros c.read_subgraph.new.chosen
 back c = came-back (start1 c).args.s.edges zeros (start1 c).requires.few c.read_subgraph.auto.chosen
 
 slice-aggregate-read-subgraph : tie.Need-slice_bounds-read_subgraph-end

@@ -32,10 +32,10 @@ vertex-lent c = sym (zeros-lent (pos 0) 128 (room (counted c))) ∙ (counted c).
 edge-lent : (c : tie.After-price_general) → length (take (begun c).args.s.edges (replicate 1024 (pos 0))) ≡ (begun c).args.s.edges
 edge-lent c = sym (zeros-lent (pos 0) 1024 (begun c).requires.0.few)
 
-vertex-back : (c : tie.After-price_general) → PartBack (counted c).vertex_count-n.result (replicate 128 (pos 0)) c.price_general.new.1.1.1.1.1.0
+vertex-back : (c : tie.After-price_general) → PartBack (counted c).vertex_count-n.result (replicate 128 (pos 0)) c.price_general.new.vertex_price
 vertex-back c = came-back (counted c).vertex_count-n.result (replicate 128 (pos 0)) (room (counted c)) c.price_general.auto.vertex_price
 
-edge-back : (c : tie.After-price_general) → PartBack (begun c).args.s.edges (replicate 1024 (pos 0)) c.price_general.new.1.1.1.1.1.1.0
+edge-back : (c : tie.After-price_general) → PartBack (begun c).args.s.edges (replicate 1024 (pos 0)) c.price_general.new.edge_price
 edge-back c = came-back (begun c).args.s.edges (replicate 1024 (pos 0)) (begun c).requires.0.few c.price_general.auto.edge_price
 
 slice-aggregate-price-general : tie.Need-slice_bounds-price_general-end

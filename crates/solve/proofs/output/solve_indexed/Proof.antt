@@ -25,7 +25,7 @@ begun c = (counted c).before.before.before.before.before
 lent : (c : tie.After-solve) → lentParts (graph (begun c)) (counted c).vertex_count-n.result ≡ lentFor (graph (begun c))
 lent c = all-lent (graph (begun c)) (begun c).requires.0 (counted c).vertex_count-n.ensures
 
-back : (c : tie.After-solve) → PartBack (begun c).args.s.edges noMarks c.solve.new.1.1.1.1.1.1.0
+back : (c : tie.After-solve) → PartBack (begun c).args.s.edges noMarks c.solve.new.chosen
 back c = came-back (begun c).args.s.edges noMarks (begun c).requires.0.few c.solve.auto.chosen
 
 slice-aggregate-solve : tie.Need-slice_bounds-solve-end

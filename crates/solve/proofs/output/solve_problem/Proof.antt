@@ -29,7 +29,7 @@ lent c =
     let is = (counted c).index_numbers-k.ensures in
     sym (zeros-lent 0 2177 (index-fits (graph (begun c)) (begun c).requires.0 is)) ∙ is
 
-back : (c : tie.After-build_index) → PartBack (size c) noIndex c.build_index.new.1.1.1.1.0
+back : (c : tie.After-build_index) → PartBack (size c) noIndex c.build_index.new.index
 back c =
     came-back (size c) noIndex (index-fits (graph (begun c)) (begun c).requires.0 (counted c).index_numbers-k.ensures) c.build_index.auto.index
 

@@ -21,7 +21,7 @@ stored : (c : tie.In-Read-2) →
     let at-read-problem = c in
     let d = at-read-problem.read_problem in
     let a = (begun at-read-problem.before.before.before.before.before).args in
-    Stored a.sheet.now a.limits.now c.in-Read.s d.new.1.1.0 d.new.1.1.1.0 d.new.1.1.1.1.0 d.new.1.1.1.1.1.0
+    Stored a.sheet.now a.limits.now c.in-Read.s d.new.row d.new.column d.new.weight d.new.bound
 stored c =
     let at-read-problem = c in
     let d = at-read-problem.read_problem in
