@@ -27,9 +27,9 @@ flag_ends r c s d p q p' q' e = omega arith
 -- An edge has the ends of no other flag than its own.
 pub flag_other : (row column : List ℕ) (n : ℕ) {r c : ℕ} → get_or row n 0 ≡ r → get_or column n 0 ≡ c → (s d : ℕ) → (flag_place s d ≡ flag_place r c → ⊥) →
     joins_in row column s d n ≡ false
-flag_other row column n rowIs columnIs s d e = elim (ℕ_discrete (get_or row n 0) s) [
+flag_other row column n row_is column_is s d e = elim (ℕ_discrete (get_or row n 0) s) [
   | yes i ↦ elim (ℕ_discrete (get_or column n 0) d) [
-    | yes j ↦ absurd (e (ap₂ flag_place (sym i ∙ rowIs) (sym j ∙ columnIs)))
+    | yes j ↦ absurd (e (ap₂ flag_place (sym i ∙ row_is) (sym j ∙ column_is)))
     | no j ↦ ap (λ (a : Bool). eqb (get_or row n 0) s && a) (ne_eqb _ _ j) ∙ and-false (eqb (get_or row n 0) s)
   ]
   | no i ↦ ap (λ (a : Bool). a && eqb (get_or column n 0) d) (ne_eqb _ _ i)
@@ -65,7 +65,7 @@ module _ {flags row column : List ℕ} {n : ℕ} (S : Seen flags row column n) w
   -- The next edge is noted.
   pub seen_note : (new : List ℕ) (r c : ℕ) → new ≡ set flags (flag_place r c) 1 → get_or row n 0 ≡ r → get_or column n 0 ≡ c → Flagged r → Flagged c →
       Seen new row column (n + 1)
-  seen_note new r c set' rowIs columnIs p q = rw set' (record {
+  seen_note new r c set' row_is column_is p q = rw set' (record {
     long = length-set flags (flag_place r c) 1 ∙ S.long;
     each = λ s d p' q'.
         elim (ℕ_discrete (flag_place s d) (flag_place r c)) [
@@ -73,7 +73,7 @@ module _ {flags row column : List ℕ} {n : ℕ} (S : Seen flags row column n) w
               let same = flag_ends s d r c p' q' p q e in
               ap (λ k. get_or (set flags (flag_place r c) 1) k 0) e
               ∙ get_or-set_same flags (flag_place r c) 1 0 (omega (arith, flag_within p q, S.long))
-              ∙ sym (ap (λ (b : Bool). cond b 1 0) (next s d (rowIs ∙ sym same.0) (columnIs ∙ sym same.1)))
+              ∙ sym (ap (λ (b : Bool). cond b 1 0) (next s d (row_is ∙ sym same.0) (column_is ∙ sym same.1)))
           | no e ↦
               get_or-set_other flags (flag_place r c) (flag_place s d) 1 0 e
               ∙ S.each s d p' q'
@@ -89,7 +89,7 @@ module _ {flags row column : List ℕ} {n : ℕ} (S : Seen flags row column n) w
 
       kept : (s d : ℕ) → (flag_place s d ≡ flag_place r c → ⊥) → joined_in row column (n + 1) s d ≡ joined_in row column n s d
       kept s d e =
-          some_next n (joins_in row column s d) ∙ ap (λ (a : Bool). joined_in row column n s d || a) (flag_other row column n rowIs columnIs s d e) ∙ or-false (joined_in row column n s d)
+          some_next n (joins_in row column s d) ∙ ap (λ (a : Bool). joined_in row column n s d || a) (flag_other row column n row_is column_is s d e) ∙ or-false (joined_in row column n s d)
 
 -- An edge is appended to n edges, and noted.
 pub seen_append : {flags row column : List ℕ} (n : ℕ) (new : List ℕ) (r c : ℕ) → Seen flags row column n → new ≡ set flags (flag_place r c) 1 →

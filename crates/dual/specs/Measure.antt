@@ -8,7 +8,6 @@ use Rattle.graph.specs.Subgraph.{weight_of}
 use Rattle.graph.specs.Tests.{graph_lengths, graph_tests, bound_test, mark_test, degree_test}
 use Rattle.dual.specs.declared.Measures.{Measures}
 use Rattle.dual.specs.declared.MeasureAnswer.{MeasureAnswer}
-use Rattle.dual.specs.declared.MeasureAnswer.TheVariants as MeasureAnswer
 use Rattle.dual.specs.Sets.{keeps_rules}
 use Rattle.dual.specs.Prices.{Prices, all_prices}
 use Rattle.dual.specs.Gap.{covered, total_of, gap_of, vertex_slack, set_slack, edge_slack, cover_slack}

@@ -6,7 +6,6 @@ use Rattle.graph.specs.Graph.{Graph, vertices}
 use Rattle.graph.specs.Tests.{bounded_tests}
 use Rattle.graph.specs.Doubled.{doubled, doubled_bounds, doubled_test}
 use Rattle.dual.specs.declared.PriceAnswer.{PriceAnswer}
-use Rattle.dual.specs.declared.PriceAnswer.TheVariants as PriceAnswer
 use Rattle.dual.specs.Prices.{Prices, vertex_price, edge_price}
 use Rattle.dual.specs.Gap.{half_points}
 use Rattle.dual.specs.Solve.{Outputs, solver_prices, Solved, without_sets}

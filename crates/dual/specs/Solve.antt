@@ -9,7 +9,6 @@ use Rattle.graph.specs.Subgraph.{Optimal}
 use Rattle.graph.specs.Tests.{bipartite_tests}
 use Rattle.graph.specs.Index.{index_numbers_in, index_test}
 use Rattle.dual.specs.declared.SolveAnswer.{SolveAnswer}
-use Rattle.dual.specs.declared.SolveAnswer.TheVariants as SolveAnswer
 use Rattle.dual.specs.Prices.{Prices, prices_of, vertex_price, edge_price}
 use Rattle.dual.specs.Gap.{half_points, worth_at, cover_of, gap_of}
 

@@ -283,7 +283,7 @@ at_most (suc (suc k)) j h = absurd (omega arith)
 -- bounds of its vertices and the number of its marked edges.
 module _ (n m : ℕ) (first second : ℕ → ℕ) (first_in : (e : ℕ) → e < m → first e < n) (second_in : (e : ℕ) → e < m → second e < n)
     (x : ℕ → ℕ) (marks : (e : ℕ) → e < m → x e ≤ 1) (bound : ℕ → ℕ) (within : (v : ℕ) → v < n → sum m (λ e. x e * end_count first second v e) ≤ bound v)
-    (inside marked : ℕ → Bool) (oneEnd : (e : ℕ) → e < m → marked e ≡ true → one (inside (first e)) + one (inside (second e)) ≡ 1) where
+    (inside marked : ℕ → Bool) (one_end : (e : ℕ) → e < m → marked e ≡ true → one (inside (first e)) + one (inside (second e)) ≡ 1) where
   abbrev ends_counted : ℕ → ℕ
   ends_counted e = one (inside (first e)) + one (inside (second e))
 
@@ -295,7 +295,7 @@ module _ (n m : ℕ) (first second : ℕ → ℕ) (first_in : (e : ℕ) → e < 
       subst (λ k. k ≤ sum m (λ e. x e * (one (marked e) + ends_counted e))) (sum-scale m 2 (λ e. x e * covering e))
       (sum_mono m _ _ (λ e l.
       subst (λ k. k ≤ x e * (one (marked e) + ends_counted e)) (mul_left_comm (x e) 2 (covering e))
-      (mul-le-mul_left (x e) (two_cover (marked e) (inside (first e)) (inside (second e)) (oneEnd e l)))))
+      (mul-le-mul_left (x e) (two_cover (marked e) (inside (first e)) (inside (second e)) (one_end e l)))))
 
   split : sum m (λ e. x e * (one (marked e) + ends_counted e)) ≡ sum m (λ e. x e * one (marked e)) + sum m (λ e. x e * ends_counted e)
   split = sum-cong m _ _ (λ e l. mul-add (x e) (one (marked e)) (ends_counted e)) ∙ sum-add m (λ e. x e * one (marked e)) (λ e. x e * ends_counted e)

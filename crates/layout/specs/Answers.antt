@@ -3,13 +3,9 @@ use Rattle.std.specs.Prelude.{ℕ}
 use Rattle.graph.specs.declared.Shape.{Shape}
 use Rattle.graph.specs.Refusal.{Told, tells, refused_with, number_of}
 use Rattle.layout.specs.declared.GraphAnswer.{GraphAnswer}
-use Rattle.layout.specs.declared.GraphAnswer.TheVariants as GraphAnswer
 use Rattle.layout.specs.declared.NumbersAnswer.{NumbersAnswer}
-use Rattle.layout.specs.declared.NumbersAnswer.TheVariants as NumbersAnswer
 use Rattle.layout.specs.declared.SubgraphAnswer.{SubgraphAnswer}
-use Rattle.layout.specs.declared.SubgraphAnswer.TheVariants as SubgraphAnswer
 use Rattle.layout.specs.declared.TextAnswer.{TextAnswer}
-use Rattle.layout.specs.declared.TextAnswer.TheVariants as TextAnswer
 
 -- The graph reader tells the graph's shape: kind, rows, columns and the number of edges.
 abbrev pub graph_says : GraphAnswer → Told Shape

@@ -12,7 +12,6 @@ use Rattle.graph.specs.Graph.{Graph, graph_of, shape_of, row_at, column_at, weig
 use Rattle.layout.specs.declared.Rules.{Rules}
 use Rattle.layout.specs.declared.Rules.TheVariants.{New}
 use Rattle.layout.specs.declared.Field.{Field}
-use Rattle.layout.specs.declared.Field.TheVariants as Field
 use Rattle.layout.specs.Text.{bytes, words, natural, integer, two_words, three_words, header, text_fits, decimal, signed, spaced, unlines}
 use Rattle.layout.specs.Lines.{Step, goes, stops, Layout, read_text}
 

@@ -7,7 +7,6 @@ use Rattle.graph.specs.Refusal.{Outcome, yields, refuses}
 use Rattle.graph.specs.Graph.{some?}
 use Rattle.layout.specs.declared.Rules.TheVariants.{Old}
 use Rattle.layout.specs.declared.Field.{Field}
-use Rattle.layout.specs.declared.Field.TheVariants as Field
 use Rattle.layout.specs.declared.Numbers.{Numbers}
 use Rattle.layout.specs.declared.Numbers.TheVariants.{Bounds, Prices}
 use Rattle.layout.specs.Text.{bytes, newline, blank, pieces, lines, integer, blank_line, comment_line, signed, unlines}

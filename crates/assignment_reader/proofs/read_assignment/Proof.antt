@@ -100,10 +100,10 @@ returns-3 c =
     let at-check-text = at-enum-told in
     let at-clear-integers = at-check-text in
     let clear = at-clear-integers.clear in
-    let kept = at-read-assignment-lines.read_assignment_lines.auto.1 in
+    let kept = at-read-assignment-lines.read_assignment_lines.auto in
     let zeros = clear.ensures in
     answered_refused (tested at-check-text.before.before.before.before.before.before.before.before.before.before.before.before.before.before.before.before.before.before.before.before) at-enum-told.in-Passed.is at-read-assignment-lines.read_assignment_lines.ensures at-r2.in-Refused-read_assignment_lines.is
-    (cleared_again at-clear2.clear-in-Refused-read_assignment_lines.ensures (kept.0 ∙ row_kept zeros) (kept.1.0 ∙ column_kept zeros) (kept.1.1.0 ∙ weight-kept zeros))
+    (cleared_again at-clear2.clear-in-Refused-read_assignment_lines.ensures (kept.row ∙ row_kept zeros) (kept.column ∙ column_kept zeros) (kept.weight ∙ weight-kept zeros))
     at-clear-integers.clear_integers.ensures
 
 pub read_assignment_spec : {M : Type 1} → statement M

@@ -24,7 +24,7 @@ abbrev at_field : tie.After-put_signed-end → tie.After-put_field-b
 at_field c = c.before.before.before.before.before.before.before.before.before.before.before
 
 abbrev begun : tie.After-put_signed-end → tie.Start
-begun c = let a = at_field c in a.before.before.before.before.before.before.before.before.before.before.before
+begun c = let a = at_field c in a.before.before.before.before.before.before.before.before.before.before.before.before
 
 -- What has been written when the cost has.
 costed : (c : tie.After-put_signed-end) →

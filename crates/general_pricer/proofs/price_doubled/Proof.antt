@@ -96,12 +96,12 @@ module _ (c : tie.After-join_integers-2) where
 
   abbrev built : Graph
   built =
-      graph_of counted.before.doubled_shape.result (front (second (third (fourth c))).join_naturals.new.out 0)
+      graph_of counted.doubled_shape-d.result (front (second (third (fourth c))).join_naturals.new.out 0)
       (front (third (fourth c)).join_naturals-2.new.out 0) (front (fourth c).join_integers.new.out (pos 0))
 
   graph-built : built ≡ doubled (graph (begun counted))
   graph-built =
-      let d = counted.before.doubled_shape.ensures in
+      let d = counted.doubled_shape-d.ensures in
       let rows = second (third (fourth c)) in
       let columns = third (fourth c) in
       let weights = fourth c in
@@ -178,7 +178,7 @@ slice-aggregate-sum-prices-4 c = (bounds-back c.before.before.before.before.befo
 
 sum-prices-requires : tie.Need-sum_prices-requires
 sum-prices-requires c κs =
-    let b = c in
+    let b = c.before.before.before.before.before.before.before in
     let v = counted b in
     let D = (begun v).requires.0 in
     let pre = (begun v).requires.1 in
@@ -186,17 +186,17 @@ sum-prices-requires c κs =
       subst Solvable (sym (graph-built b)) (record { bipartite = refl; passed = doubled-passed D }),
       (
         subst₂ Bounded (sym (vertices-are v)) (sym (bounds-built b)) (doubled-bounded D pre.0),
-        (ap₂ ◌+◌ long long ∙ sym (vertices-are v), ap₂ ◌+◌ pre.1.1 pre.1.1 ∙ sym v.before.doubled_shape.ensures.3),
+        (ap₂ ◌+◌ long long ∙ sym (vertices-are v), ap₂ ◌+◌ pre.1.1 pre.1.1 ∙ sym v.doubled_shape-d.ensures.3),
       ),
     )
 
 returns : tie.Need-returns
 returns c =
-    let b = c in
+    let b = c.before.before.before.before.before.before.before.before.before.before in
     let pre = (begun (counted b)).requires.1.1 in
     let summed = c.sum_prices in
-    let kept = summed.auto.1.1.1.1.1 in
-    doubly_priced (graph-built b) (bounds-built b) (kept.0 ∙ pre.0) (kept.1.0 ∙ pre.1) summed.ensures
+    let kept = summed.auto in
+    doubly_priced (graph-built b) (bounds-built b) (kept.vertex_price ∙ pre.0) (kept.edge_price ∙ pre.1) summed.ensures
 
 pub price_doubled_spec : {M : Type 1} → statement M
 price_doubled_spec =

@@ -45,9 +45,9 @@ returns-2 c =
     let cleared = passed in
     let says = sym (tested cleared.before.before.before.before.before.before.before).check_general-check.ensures ∙ ap check_says passed.in_default.is in
     let priced = c.price_doubled in
-    let kept = priced.auto.1.1.1.1.1 in (
+    let kept = priced.auto in (
       ap told (sym says),
-      left-priced says priced.ensures (kept.0 ∙ (first cleared.before.before.before.before.before.before.before).clear_integers.auto.out) (kept.1.0 ∙ cleared.clear_integers-2.auto.out),
+      left-priced says priced.ensures (kept.vertex_price ∙ (first cleared.before.before.before.before.before.before.before).clear_integers.auto.out) (kept.edge_price ∙ cleared.clear_integers-2.auto.out),
     )
 
 pub price_general_spec : {M : Type 1} → statement M

@@ -107,16 +107,16 @@ same_length c =
     let at-search = c in
     let at-loop = at-search in
     let inv = at-loop.loop-i.invariant in
-    let kept = at-search.search-found.auto.1.1.1.1.1.1 in
-    omega (arith, kept.0, inv.0)
+    let kept = at-search.search-found.auto in
+    omega (arith, kept.chosen, inv.0)
 
 same-length-2 : tie.Need-shape_of-list-then-not-found invariant-loop decreases-loop
 same-length-2 c =
     let at-search = c in
     let at-loop = at-search in
     let inv = at-loop.loop-i.invariant in
-    let kept = at-search.search-found.auto.1.1.1.1.1.1 in
-    omega (arith, kept.1.0, inv.1)
+    let kept = at-search.search-found.auto in
+    omega (arith, kept.list, inv.1)
 
 returns : tie.Need-returns-then-not-found invariant-loop decreases-loop
 returns c =
@@ -150,9 +150,9 @@ loop-again c =
     let sought = at-search.search-found.ensures in
     let got = sought.0.found (went_well at-search.search-found.result (ap not c.if-not-found.false)) in
     let found = Serving.sought_first inside.loop-i.order (root inside.before.before.before.before.before.before.before.before.before.before.before.before.before.before) inv.3.order_long got in
-    let kept = at-search.search-found.auto.1.1.1.1.1.1 in (
-      omega (arith, kept.0, inv.0),
-      omega (arith, kept.1.0, inv.1),
+    let kept = at-search.search-found.auto in (
+      omega (arith, kept.chosen, inv.0),
+      omega (arith, kept.list, inv.1),
       Serving.still start.requires.1.0 inside.loop-i-test.true inv.2 root_is found,
       sought.1,
     )

@@ -2,8 +2,8 @@
 use mathlib.Core.Path.{◌≡◌, ap, ◌∙◌}
 use mathlib.Core.Bool.{Bool, ◌&&◌}
 use lib.Dec.{eqb}
-use Rattle.graph.specs.Limits.{workspaceNumbers}
-use Rattle.graph.specs.Graph.{verticesIn}
+use Rattle.graph.specs.Limits.{workspace_numbers}
+use Rattle.graph.specs.Graph.{vertices_in}
 use borrow.Author.Rules.{rules}
 use Rattle.solver.proofs.outputs_match.Statement.{statement}
 use Rattle.solver.proofs.outputs_match.Tie as tie
@@ -21,8 +21,8 @@ returns c =
     let a = at-vertex-count.args in
     let marks = at_both.both-marks.ensures ∙ ap (λ i. eqb a.index i && eqb a.outputs.chosen a.s.edges) at-index-numbers.index_numbers.ensures in
     let vertices = at-both2.both.ensures ∙ ap (λ k. at_both.both-marks.result && eqb a.outputs.vertex k) at-vertex-count.vertex_count-n.ensures in
-    one_more (eqb a.outputs.workspace workspaceNumbers) c.both-2.ensures
-    (one_more (eqb a.outputs.edge a.s.edges) c.both-prices.ensures (one_more (eqb a.outputs.vertex (verticesIn a.s)) vertices marks))
+    one_more (eqb a.outputs.workspace workspace_numbers) c.both-2.ensures
+    (one_more (eqb a.outputs.edge a.s.edges) c.both-prices.ensures (one_more (eqb a.outputs.vertex (vertices_in a.s)) vertices marks))
 
 pub outputs_match_spec : {M : Type 1} → statement M
 outputs_match_spec =

@@ -80,13 +80,13 @@ returns-2 c =
     let start = at-tested in
     let says = sym at-tested.tested-check.ensures ∙ ap check_says at-enum-told.in_default.is in
     let optimise = at-optimise.optimise in
-    let kept = optimise.auto.1.1.1.1.1.1 in
-    let workspace = kept.1.1.1.0 ∙ at-clear-integers3.clear_integers-3.auto.out in (
+    let kept = optimise.auto in
+    let workspace = kept.list ∙ at-clear-integers3.clear_integers-3.auto.out in (
       ap told (sym says),
       left-solved start.args.index.now (lent start.before.before.before.before.before.before.before.before.before.before.before.before.before.before.before.before.before.before.before.before.before.before.before.before.before.before.before.before.before.before.before.before) says optimise.ensures
-          (kept.0 ∙ at-clear-bytes.clear_bytes.auto.out)
-          (kept.1.0 ∙ at-clear-integers.clear_integers.auto.out)
-          (kept.1.1.0 ∙ at-clear-integers2.clear_integers-2.auto.out)
+          (kept.chosen ∙ at-clear-bytes.clear_bytes.auto.out)
+          (kept.vertex_price ∙ at-clear-integers.clear_integers.auto.out)
+          (kept.edge_price ∙ at-clear-integers2.clear_integers-2.auto.out)
           (at-clear-integers4.clear_integers-4.ensures ∙ ap (λ n. replicate n (pos 0)) workspace),
     )
 

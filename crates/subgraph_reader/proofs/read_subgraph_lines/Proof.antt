@@ -55,7 +55,7 @@ returns-2 c =
     let g = graph start.before.before.before.before.before.before.before.before.before.before.before.before.before.before in
     read_refused g _
     (header-stops (subgraph_layout New g) at-header-line.header_line.ensures at-start.in-At.is Disagreement
-    (header-differs g at-header-kind.header_kind.ensures at-kind.in-Is.is same_kind.ensures c.if-not-same_kind.true)
+    (header-differs g at-header-kind.header_kind.ensures at-kind.in-Is.is same_kind.ensures (ap not c.if-not-same_kind.true))
     c.refused_at-then-not-same_kind.ensures)
 
 size-line-requires : tie.Need-size_line-requires

@@ -3,12 +3,12 @@ use mathlib.Core.Path.{◌≡◌}
 use native.Mathlib.Omega.{arith}
 use borrow.Author.Rules.{rules}
 use lib.ListN.{length, length-take}
-use Rattle.report.specs.Programs.{fromDimacsOutput}
+use Rattle.report.specs.Programs.{from_dimacs_output}
 use Rattle.problem_reader.proofs.Kept.{graph-refused}
 use Rattle.problem_reader.proofs.Graphs.{GraphStored, graph-stored}
 use Rattle.report.proofs.Runs.{nothing_left}
 use Rattle.problem_reader.proofs.Texts.{line-written, all-written}
-use Rattle.from_dimacs.proofs.Answers.{lentAssignment, writes, passed, whole}
+use Rattle.from_dimacs.proofs.Answers.{lent_assignment, writes, passed, whole}
 use Rattle.from_dimacs.proofs.output.from_dimacs_output.Statement.{statement}
 use Rattle.from_dimacs.proofs.output.from_dimacs_output.Tie as tie
 
@@ -23,7 +23,7 @@ long c = c.if-out-ne-LONGEST_TEXT.false
 stored : (c : tie.In-Graph-2) →
     let r = c in
     let d = r.read_assignment in
-    GraphStored (lentAssignment (begun r.before.before.before.before.before).args.crosses.now) c.in-Graph.s d.new.row d.new.column d.new.weight
+    GraphStored (lent_assignment (begun r.before.before.before.before.before).args.crosses.now) c.in-Graph.s d.new.row d.new.column d.new.weight
 stored c =
     let r = c in
     let d = r.read_assignment in
@@ -35,7 +35,7 @@ returns c =
     let at-clear-bytes = c in
     let at-if1 = at-clear-bytes in
     let args = at-if1.args in
-    nothing_left 32768 (fromDimacsOutput args.crosses.now) at-if1.if-out-ne-LONGEST_TEXT.true at-clear-bytes.clear_bytes.ensures
+    nothing_left 32768 (from_dimacs_output args.crosses.now) at-if1.if-out-ne-LONGEST_TEXT.true at-clear-bytes.clear_bytes.ensures
 
 put-own-requires : tie.Need-put_own-requires
 put-own-requires c κs =
@@ -50,7 +50,7 @@ returns-2 c =
     let r = at-refusal in
     let crosses = (begun r.before.before.before.before.before.before.before.before.before).args.crosses.now in
     let refused = graph-refused r.read_assignment.ensures.0 at-refusal.in-Refused.is in
-    line-written (fromDimacsOutput crosses) (writes crosses refused) (long r.before.before.before.before.before.before.before.before.before) at-put-refused.put_refused.ensures
+    line-written (from_dimacs_output crosses) (writes crosses refused) (long r.before.before.before.before.before.before.before.before.before) at-put-refused.put_refused.ensures
 
 returns-3 : tie.Need-returns-in-Graph
 returns-3 c =
@@ -58,7 +58,7 @@ returns-3 c =
     let at-s = at-put-own in
     let r = at-s in
     let crosses = (begun r.before.before.before.before.before.before.before.before.before.before.before.before.before).args.crosses.now in
-    all-written (fromDimacsOutput crosses) (writes crosses (stored at-s.before.before.before.before.before.before.before.before).same) (long r.before.before.before.before.before.before.before.before.before.before.before.before.before) at-put-own.put_own.ensures
+    all-written (from_dimacs_output crosses) (writes crosses (stored at-s.before.before.before.before.before.before.before.before).same) (long r.before.before.before.before.before.before.before.before.before.before.before.before.before) at-put-own.put_own.ensures
 
 pub from_dimacs_output_spec : {M : Type 1} → statement M
 from_dimacs_output_spec =

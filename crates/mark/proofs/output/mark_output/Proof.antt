@@ -2,8 +2,8 @@
 use native.Mathlib.Omega.{arith}
 use lib.ListN.{length-take}
 use mathlib.Core.Path.{refl}
-use Rattle.report.specs.Report.{measuredLine, lineRoom}
-use Rattle.report.specs.Programs.{markProblem, markOutput}
+use Rattle.report.specs.Report.{measured_line, line_room}
+use Rattle.report.specs.Programs.{mark_problem, mark_output}
 use Rattle.report.proofs.Runs.{run-goes, run_ends, answer-inside}
 use Rattle.problem_reader.proofs.Lent.{Stored, stored-problem, problem-ended, stored-in}
 use borrow.Author.Rules.{rules}
@@ -31,23 +31,23 @@ mark-problem-requires : tie.Need-mark_problem-requires
 mark-problem-requires c κs = (stored c.before.before.before.before.before.before.before).sizes
 
 returns : tie.Need-returns-in-Refused
-unfolding markOutput
+unfolding mark_output
 returns c =
     let at_source = c in
     let r = at_source in
     let a = (begun r.before.before.before.before.before.before.before.before.before).args in
     answer-inside
-    (run_ends lineRoom measuredLine (λ P. markProblem P.graph P.bound a.plan.now a.prices.now)
+    (run_ends line_room measured_line (λ P. mark_problem P.graph P.bound a.plan.now a.prices.now)
     (problem-ended a.sheet.now a.limits.now r.read_problem.ensures.0 at_source.in-Refused.is)
     refl c.put_refused.ensures)
 
 returns-2 : tie.Need-returns-in-Read
-unfolding markOutput
+unfolding mark_output
 returns-2 c =
     let v = c in
     let a = (begun v.before.before.before.before.before.before.before.before.before.before.before.before.before.before.before).args in
     answer-inside
-    (run-goes lineRoom measuredLine (λ P. markProblem P.graph P.bound a.plan.now a.prices.now)
+    (run-goes line_room measured_line (λ P. mark_problem P.graph P.bound a.plan.now a.prices.now)
     (stored-problem (stored v.before.before.before.before.before.before.before.before.before.before) v.vertex_count-n.ensures) c.mark_problem.ensures)
 
 pub mark_output_spec : {M : Type 1} → statement M

@@ -2,9 +2,9 @@
 use mathlib.Core.Path.{sym, ap, ◌∙◌}
 use Rattle.graph.specs.Refusal.{yields, refuses}
 use Rattle.graph.proofs.Told.{told_same}
-use Rattle.dual.specs.Measure.{measureSays}
+use Rattle.dual.specs.Measure.{measure_says}
 use Rattle.report.specs.declared.Source.TheVariants.{Input}
-use Rattle.report.specs.Programs.{cameFrom}
+use Rattle.report.specs.Programs.{came_from}
 use Rattle.mark.proofs.Stages.{same_line}
 use borrow.Author.Rules.{rules}
 use Rattle.mark.proofs.output.put_measured.Statement.{statement}
@@ -13,12 +13,12 @@ use Rattle.mark.proofs.output.put_measured.Tie as tie
 returns : tie.Need-returns-in-Measured
 returns c o says =
     let m = c.in-Measured in
-    same_line (ap (cameFrom Input) (told_same (yields m.m) o (sym (ap measureSays m.is) ∙ says))) c.put_measures.ensures
+    same_line (ap (came_from Input) (told_same (yields m.m) o (sym (ap measure_says m.is) ∙ says))) c.put_measures.ensures
 
 returns-2 : tie.Need-returns-in-Refused
 returns-2 c o says =
     let r = c.in-Refused in
-    same_line (ap (cameFrom Input) (told_same (refuses r.refusal.fault r.refusal.place) o (sym (ap measureSays r.is) ∙ says)))
+    same_line (ap (came_from Input) (told_same (refuses r.refusal.fault r.refusal.place) o (sym (ap measure_says r.is) ∙ says)))
     c.put_refused.ensures
 
 pub put_measured_spec : {M : Type 1} → statement M

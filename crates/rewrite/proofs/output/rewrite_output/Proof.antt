@@ -3,7 +3,7 @@ use mathlib.Core.Path.{sym, ◌∙◌}
 use native.Mathlib.Omega.{arith}
 use borrow.Author.Rules.{rules}
 use Rattle.layout.specs.Text.{bytes}
-use Rattle.layout.specs.Rewrite.{rewriteOutput}
+use Rattle.layout.specs.Rewrite.{rewrite_output}
 use Rattle.digits.proofs.Over.{puts-same}
 use Rattle.report.proofs.Parts.{line-is, no_room, text-composed, composed-inside}
 use Rattle.old_text.proofs.Taken.{taken-fits}
@@ -16,7 +16,7 @@ returns c =
     let at-clear-bytes = c in
     let start = at-clear-bytes in
     let a = start.args in
-    let C = no_room 32768 (rewriteOutput a.text.now) a.out.now at-clear-bytes.clear_bytes.ensures c.if-out-lt-LONGEST_TEXT.true in
+    let C = no_room 32768 (rewrite_output a.text.now) a.out.now at-clear-bytes.clear_bytes.ensures c.if-out-lt-LONGEST_TEXT.true in
     (composed-inside C, C)
 
 put-text-requires : tie.Need-put_text-requires
@@ -33,7 +33,7 @@ returns-2 c =
     let at-clear-bytes = at-if1 in
     let start = at-clear-bytes in
     let a = start.args in
-    let C = text-composed 32768 (rewriteOutput a.text.now) a.out.now at-clear-bytes.clear_bytes.ensures at-if1.if-out-lt-LONGEST_TEXT.false
+    let C = text-composed 32768 (rewrite_output a.text.now) a.out.now at-clear-bytes.clear_bytes.ensures at-if1.if-out-lt-LONGEST_TEXT.false
     (puts-same c.put_text.ensures (sym (output-anew a.text.now (sym at-is-taken.is_taken.ensures ∙ at-if2.if-is_taken.true)))) in
     (composed-inside C, C)
 
@@ -45,7 +45,7 @@ returns-3 c =
     let at-clear-bytes = at-if1 in
     let start = at-clear-bytes in
     let a = start.args in
-    let C = text-composed 32768 (rewriteOutput a.text.now) a.out.now at-clear-bytes.clear_bytes.ensures at-if1.if-out-lt-LONGEST_TEXT.false
+    let C = text-composed 32768 (rewrite_output a.text.now) a.out.now at-clear-bytes.clear_bytes.ensures at-if1.if-out-lt-LONGEST_TEXT.false
     (puts-same c.put_bytes.ensures
     (line-is (bytes "cannot read") ∙ sym (output-line a.text.now (sym at-is-taken.is_taken.ensures ∙ at-if2.if-is_taken.false)))) in
     (composed-inside C, C)

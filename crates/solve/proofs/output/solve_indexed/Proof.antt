@@ -4,9 +4,9 @@ use lib.IntN.{pos}
 use mathlib.Core.Path.{◌≡◌}
 use lib.ListN.{drop}
 use Rattle.graph.specs.Graph.{Graph, graph_of}
-use Rattle.report.specs.Programs.{lentFor}
+use Rattle.report.specs.Programs.{lent_for}
 use Rattle.lent.proofs.Parts.{PartBack, came-back, zeros-lent}
-use Rattle.solve.proofs.Answers.{noMarks, lentParts, all-lent, refusal-left, solved-passed, part-marks, part-written}
+use Rattle.solve.proofs.Answers.{no_marks, lent_parts, all-lent, refusal-left, solved-passed, part-marks, part-written}
 use borrow.Author.Rules.{rules}
 use Rattle.solve.proofs.output.solve_indexed.Statement.{statement}
 use Rattle.solve.proofs.output.solve_indexed.Tie as tie
@@ -22,11 +22,11 @@ counted c = c.before.before.before.before.before.before
 abbrev begun : tie.After-solve → tie.Start
 begun c = (counted c).before.before.before.before.before
 
-lent : (c : tie.After-solve) → lentParts (graph (begun c)) (counted c).vertex_count-n.result ≡ lentFor (graph (begun c))
+lent : (c : tie.After-solve) → lent_parts (graph (begun c)) (counted c).vertex_count-n.result ≡ lent_for (graph (begun c))
 lent c = all-lent (graph (begun c)) (begun c).requires.0 (counted c).vertex_count-n.ensures
 
-back : (c : tie.After-solve) → PartBack (begun c).args.s.edges noMarks c.solve.new.chosen
-back c = came-back (begun c).args.s.edges noMarks (begun c).requires.0.few c.solve.auto.chosen
+back : (c : tie.After-solve) → PartBack (begun c).args.s.edges no_marks c.solve.new.chosen
+back c = came-back (begun c).args.s.edges no_marks (begun c).requires.0.few c.solve.auto.chosen
 
 slice-aggregate-solve : tie.Need-slice_bounds-solve-end
 slice-aggregate-solve c = zeros-lent 0 1024 c.requires.0.few
@@ -54,7 +54,7 @@ put-subgraph-requires c κs =
       s.requires.1,
       (
         (solved-passed (graph s) s.args.bound.now s.args.index.now (lent r.before.before.before.before.before.before.before) done.0 is done.1).sound,
-        part-marks (graph s) s.args.bound.now s.args.index.now (lent r.before.before.before.before.before.before.before) done.0 is done.1 (drop s.args.s.edges noMarks),
+        part-marks (graph s) s.args.bound.now s.args.index.now (lent r.before.before.before.before.before.before.before) done.0 is done.1 (drop s.args.s.edges no_marks),
       ),
     )
 
@@ -73,7 +73,7 @@ returns-2 c =
     let s = begun r.before.before.before.before.before.before.before.before.before.before in
     let done = r.solve.ensures in
     part-written (graph s) s.args.bound.now s.args.index.now (lent r.before.before.before.before.before.before.before.before.before.before) done.0 at-enum-told.in-Solved.is done.1
-    (drop s.args.s.edges noMarks) s.requires.1 (c.put_subgraph.ensures s.args.weight.now)
+    (drop s.args.s.edges no_marks) s.requires.1 (c.put_subgraph.ensures s.args.weight.now)
 
 pub solve_indexed_spec : {M : Type 1} → statement M
 solve_indexed_spec =

@@ -3,9 +3,9 @@ use Prim.Native.Nat.{ℕ}
 use mathlib.Core.Path.{◌≡◌, sym, ◌∙◌}
 use lib.ListN.{length, take}
 use Rattle.graph.specs.Graph.{Graph, graph_of}
-use Rattle.graph.specs.Index.{indexNumbers}
+use Rattle.graph.specs.Index.{index_numbers}
 use Rattle.lent.proofs.Parts.{PartBack, came-back, zeros-lent}
-use Rattle.solve.proofs.Answers.{noIndex, index-fits, index-refused, index-solved}
+use Rattle.solve.proofs.Answers.{no_index, index-fits, index-refused, index-solved}
 use borrow.Author.Rules.{rules}
 use Rattle.solve.proofs.output.solve_problem.Statement.{statement}
 use Rattle.solve.proofs.output.solve_problem.Tie as tie
@@ -24,14 +24,14 @@ begun c = (counted c).before.before.before.before
 abbrev size : tie.After-build_index → ℕ
 size c = (counted c).index_numbers-k.result
 
-lent : (c : tie.After-build_index) → length (take (size c) noIndex) ≡ indexNumbers (graph (begun c))
+lent : (c : tie.After-build_index) → length (take (size c) no_index) ≡ index_numbers (graph (begun c))
 lent c =
     let is = (counted c).index_numbers-k.ensures in
     sym (zeros-lent 0 2177 (index-fits (graph (begun c)) (begun c).requires.0 is)) ∙ is
 
-back : (c : tie.After-build_index) → PartBack (size c) noIndex c.build_index.new.index
+back : (c : tie.After-build_index) → PartBack (size c) no_index c.build_index.new.index
 back c =
-    came-back (size c) noIndex (index-fits (graph (begun c)) (begun c).requires.0 (counted c).index_numbers-k.ensures) c.build_index.auto.index
+    came-back (size c) no_index (index-fits (graph (begun c)) (begun c).requires.0 (counted c).index_numbers-k.ensures) c.build_index.auto.index
 
 slice-aggregate-build-index : tie.Need-slice_bounds-build_index-end
 slice-aggregate-build-index c =

@@ -3,10 +3,10 @@ use mathlib.Core.Path.{◌≡◌}
 use native.Mathlib.Omega.{arith}
 use borrow.Author.Rules.{rules}
 use lib.ListN.{length, length-take}
-use Rattle.report.specs.Programs.{tidyRun, tidyOutput, wholeTextRoom}
+use Rattle.report.specs.Programs.{tidy_run, tidy_output, whole_text_room}
 use Rattle.report.proofs.Runs.{run-goes, run_ends, answer-inside, line-fits, nothing_left}
 use Rattle.problem_reader.proofs.Kept.{graph-refused}
-use Rattle.problem_reader.proofs.Graphs.{GraphStored, graph-stored, lentGraph, sheet-whole, sheet-came}
+use Rattle.problem_reader.proofs.Graphs.{GraphStored, graph-stored, lent_graph, sheet-whole, sheet-came}
 use Rattle.tidy.proofs.output.tidy_output.Statement.{statement}
 use Rattle.tidy.proofs.output.tidy_output.Tie as tie
 
@@ -21,7 +21,7 @@ long c = c.if-out-ne-LONGEST_TEXT.false
 stored : (c : tie.In-Graph-2) →
     let r = c in
     let d = r.read_graph in
-    GraphStored (lentGraph (begun r.before.before.before.before).args.sheet.now) c.in-Graph.s d.new.row d.new.column d.new.weight
+    GraphStored (lent_graph (begun r.before.before.before.before).args.sheet.now) c.in-Graph.s d.new.row d.new.column d.new.weight
 stored c =
     let r = c in
     let d = r.read_graph in
@@ -31,27 +31,27 @@ stored c =
 returns : tie.Need-returns-then-out-ne-LONGEST_TEXT
 returns c =
     let a = c.args in
-    nothing_left 32768 (tidyOutput a.sheet.now) c.if-out-ne-LONGEST_TEXT.true c.clear_bytes.ensures
+    nothing_left 32768 (tidy_output a.sheet.now) c.if-out-ne-LONGEST_TEXT.true c.clear_bytes.ensures
 
 tidy-read-requires : tie.Need-tidy_read-requires
 tidy-read-requires c κs = long c.before.before.before.before.before.before.before.before.before
 
 returns-2 : tie.Need-returns-in-Refused
-unfolding tidyOutput
+unfolding tidy_output
 returns-2 c =
     let at-refusal = c in
     let r = at-refusal in
     answer-inside
-    (run_ends wholeTextRoom (λ text. text) tidyRun
+    (run_ends whole_text_room (λ text. text) tidy_run
     (sheet-came (begun r.before.before.before.before.before.before.before.before).args.sheet.now (graph-refused r.read_graph.ensures.0 at-refusal.in-Refused.is))
     (line-fits 32768 (omega arith) (long r.before.before.before.before.before.before.before.before)) c.put_refused.ensures)
 
 returns-3 : tie.Need-returns-in-Graph
-unfolding tidyOutput
+unfolding tidy_output
 returns-3 c =
     let at-s = c in
     let sheet = (begun at-s.before.before.before.before.before.before.before.before.before.before.before.before).args.sheet.now in
-    answer-inside (run-goes wholeTextRoom (λ text. text) tidyRun (sheet-came sheet (stored at-s.before.before.before.before.before.before.before.before).same) c.tidy_read.ensures)
+    answer-inside (run-goes whole_text_room (λ text. text) tidy_run (sheet-came sheet (stored at-s.before.before.before.before.before.before.before.before).same) c.tidy_read.ensures)
 
 pub tidy_output_spec : {M : Type 1} → statement M
 tidy_output_spec =

@@ -2,7 +2,7 @@
 use native.Mathlib.Omega.{arith}
 use mathlib.Core.Path.{◌≡◌}
 use lib.ListN.{length, length-take}
-use Rattle.report.specs.Programs.{toDimacsRun, toDimacsOutput, wholeTextRoom}
+use Rattle.report.specs.Programs.{to_dimacs_run, to_dimacs_output, whole_text_room}
 use Rattle.report.proofs.Runs.{run-goes, run_ends, answer-inside, line-fits, nothing_left}
 use Rattle.problem_reader.proofs.Lent.{Stored, stored-problem, problem-ended, stored-in}
 use borrow.Author.Rules.{rules}
@@ -34,7 +34,7 @@ returns c =
     let clear-bytes = c.clear_bytes in
     let at-if1 = c in
     let a = at-if1.args in
-    nothing_left 32768 (toDimacsOutput a.sheet.now a.limits.now) at-if1.if-out-ne-LONGEST_TEXT.true clear-bytes.ensures
+    nothing_left 32768 (to_dimacs_output a.sheet.now a.limits.now) at-if1.if-out-ne-LONGEST_TEXT.true clear-bytes.ensures
 
 write-problem-requires : tie.Need-write_problem-requires
 write-problem-requires c κs =
@@ -42,22 +42,22 @@ write-problem-requires c κs =
     long at-s.before.before.before.before.before.before.before.before.before.before.before.before
 
 returns-2 : tie.Need-returns-in-Refused
-unfolding toDimacsOutput
+unfolding to_dimacs_output
 returns-2 c =
     let at_source = c in
     let r = at_source in
     let a = (begun r.before.before.before.before.before.before.before.before.before).args in
     answer-inside
-    (run_ends wholeTextRoom (λ text. text) toDimacsRun
+    (run_ends whole_text_room (λ text. text) to_dimacs_run
     (problem-ended a.sheet.now a.limits.now r.read_problem.ensures.0 at_source.in-Refused.is)
     (line-fits 32768 (omega arith) (long r.before.before.before.before.before.before.before.before.before)) c.put_refused.ensures)
 
 returns-3 : tie.Need-returns-in-Read
-unfolding toDimacsOutput
+unfolding to_dimacs_output
 returns-3 c =
     let v = c in
     answer-inside
-    (run-goes wholeTextRoom (λ text. text) toDimacsRun (stored-problem (stored v.before.before.before.before.before.before.before.before.before.before) v.vertex_count-n.ensures)
+    (run-goes whole_text_room (λ text. text) to_dimacs_run (stored-problem (stored v.before.before.before.before.before.before.before.before.before.before) v.vertex_count-n.ensures)
     c.write_problem.ensures)
 
 pub to_dimacs_output_spec : {M : Type 1} → statement M
