@@ -1,6 +1,5 @@
 -- `arc_edge` tests the ends of an arc, and its cost, and gives its edge.
 use mathlib.Core.Path.{sym, ap, ◌∙◌}
-use borrow.Author.Tests.{not-true, not-false}
 use mathlib.Core.Option.{some}
 use native.Mathlib.Omega.{arith}
 use lib.IntN.{neg_ℤ}

@@ -1,6 +1,5 @@
 -- `coordinate_on` says what a later line does.
 use mathlib.Core.Path.{ap, ◌∙◌}
-use borrow.Author.Tests.{not-true, not-false}
 use Rattle.graph.specs.Graph.{weight_in_range}
 use Rattle.layout.specs.Text.{words}
 use Rattle.lines.specs.Found.{part}

@@ -1,7 +1,6 @@
 -- `entry_on` goes by the letter that begins the line.
 use mathlib.Core.Path.{◌≡◌, sym, ◌∙◌}
 use mathlib.Core.Bool.{true}
-use borrow.Author.Tests.{not-true, not-false}
 use Rattle.layout.specs.Text.{begins}
 use Rattle.entries.proofs.Lines.{entry_blank, letter_p, letter_n, letter_a, letter_other}
 use borrow.Author.Rules.{rules}

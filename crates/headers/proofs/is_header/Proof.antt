@@ -1,6 +1,5 @@
 -- `is_header` takes the first word with its case kept, and four more in either case.
 use mathlib.Core.Path.{sym, ◌∙◌}
-use borrow.Author.Tests.{not-true, not-false}
 use Rattle.headers.proofs.Headers.{header-blank, header-begun, first_within, first_followed, four_taken}
 use borrow.Author.Rules.{rules}
 use Rattle.headers.proofs.is_header.Statement.{statement}

@@ -1,6 +1,5 @@
 -- `keywords::first_word` meets its contract.
 use mathlib.Core.Path.{sym, ◌∙◌}
-use borrow.Author.Tests.{not-true, not-false}
 use Rattle.text.proofs.Pieces.{word_is, word_past}
 use Rattle.keywords.proofs.Words.{first_missing, first_other, first_at}
 use borrow.Author.Rules.{rules}

@@ -1,6 +1,5 @@
 -- `keywords::keyword` meets its contract.
 use mathlib.Core.Path.{sym, ◌∙◌}
-use borrow.Author.Tests.{not-true, not-false}
 use Rattle.text.proofs.Pieces.{word_is, word_past}
 use Rattle.keywords.proofs.Words.{within-at, taken-nowhere, taken-missing, taken-other, taken}
 use borrow.Author.Rules.{rules}

@@ -5,7 +5,6 @@ use lib.Dec.{eqb}
 use lib.ListN.{length}
 use borrow.Author.Rules.{rules}
 use Rattle.graph.specs.Graph.{Graph, graph_of, vertices}
-use Rattle.checks.specs.Checks.{check_says}
 use Rattle.lent.proofs.Bounded.{numbers_refused, bound_among, bound_refused, all_passed}
 use Rattle.lent.proofs.check_bounded.Statement.{statement}
 use Rattle.lent.proofs.check_bounded.Tie as tie

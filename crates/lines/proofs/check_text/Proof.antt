@@ -1,7 +1,7 @@
 -- `check_text` makes the tests in their order.
 use mathlib.Core.Path.{ap, ◌∙◌}
 use mathlib.Core.Bool.{true, false}
-use borrow.Author.Tests.{le-leb, lt-leb, not-true, not-false}
+use borrow.Author.Tests.{le-leb, lt-leb}
 use Rattle.layout.specs.Text.{text_fits}
 use Rattle.checks.specs.Checks.{check_says}
 use Rattle.lines.proofs.Tested.{lent_refused, sizes_refused, fits_says}

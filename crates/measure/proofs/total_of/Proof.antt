@@ -1,6 +1,5 @@
 -- The three parts are added up.
 use mathlib.Core.Path.{ap₂, ◌∙◌}
-use lib.IntN.{◌+ℤ◌}
 use native.Mathlib.Omega.{arith}
 use borrow.Author.Rules.{rules}
 use Rattle.terms.proofs.Machine.{stored_is, stored_within, stored_both}

@@ -3,7 +3,6 @@ use mathlib.Core.List.{[]}
 use mathlib.Core.Path.{sym, ◌∙◌}
 use Rattle.graph.specs.Graph.{Graph, graph_of}
 use Rattle.dual.specs.Sets.{OddSets, odd_sets_of}
-use borrow.Author.Tests.{not-true, not-false}
 use Rattle.sets.proofs.Marks.{above_breaks, vertex_breaks, ends_decide}
 use borrow.Author.Rules.{rules}
 use Rattle.sets.proofs.keeps_rules.Statement.{statement}

@@ -1,7 +1,6 @@
 -- The weight in half points is taken off the total.
 use Prim.Native.Nat.{◌^◌}
 use mathlib.Core.Path.{ap, ap₂, ◌∙◌}
-use lib.IntN.{◌-ℤ◌}
 use native.Mathlib.Omega.{arith}
 use Rattle.integers.specs.Integer.{Within}
 use Rattle.dual.specs.Gap.{half_points}

@@ -1,7 +1,6 @@
 -- The three parts are added one after the other.
 use mathlib.Core.Path.{refl}
 use native.Mathlib.Omega.{arith}
-use borrow.Author.Rules.{rules}
 use Rattle.terms.proofs.Machine.{stored_within, stored_both}
 use Rattle.terms.proofs.Steps.{plus}
 use Rattle.terms.proofs.total_parts.Statement.{statement}

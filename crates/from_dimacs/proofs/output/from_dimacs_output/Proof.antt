@@ -4,10 +4,10 @@ use native.Mathlib.Omega.{arith}
 use borrow.Author.Rules.{rules}
 use lib.ListN.{length, length-take}
 use Rattle.report.specs.Programs.{from_dimacs_output}
-use Rattle.problem_reader.proofs.Kept.{graph-refused}
-use Rattle.problem_reader.proofs.Graphs.{GraphStored, graph-stored}
+use Rattle.problem_reader.proofs.Kept.{graph_refused}
+use Rattle.problem_reader.proofs.Graphs.{GraphStored, graph_stored}
 use Rattle.report.proofs.Runs.{nothing_left}
-use Rattle.problem_reader.proofs.Texts.{line-written, all-written}
+use Rattle.problem_reader.proofs.Texts.{line_written, all_written}
 use Rattle.from_dimacs.proofs.Answers.{lent_assignment, writes, passed, whole}
 use Rattle.from_dimacs.proofs.output.from_dimacs_output.Statement.{statement}
 use Rattle.from_dimacs.proofs.output.from_dimacs_output.Tie as tie
@@ -27,7 +27,7 @@ stored : (c : tie.In-Graph-2) →
 stored c =
     let r = c in
     let d = r.read_assignment in
-    graph-stored (whole (begun r.before.before.before.before.before).args.crosses.now) d.ensures.0 c.in-Graph.is d.ensures.1.0 d.ensures.1.1.0 d.ensures.1.1.1.0
+    graph_stored (whole (begun r.before.before.before.before.before).args.crosses.now) d.ensures.0 c.in-Graph.is d.ensures.1.0 d.ensures.1.1.0 d.ensures.1.1.1.0
     d.auto.row d.auto.column d.auto.weight
 
 returns : tie.Need-returns-then-out-ne-LONGEST_TEXT
@@ -49,8 +49,8 @@ returns-2 c =
     let at-refusal = at-put-refused in
     let r = at-refusal in
     let crosses = (begun r.before.before.before.before.before.before.before.before.before).args.crosses.now in
-    let refused = graph-refused r.read_assignment.ensures.0 at-refusal.in-Refused.is in
-    line-written (from_dimacs_output crosses) (writes crosses refused) (long r.before.before.before.before.before.before.before.before.before) at-put-refused.put_refused.ensures
+    let refused = graph_refused r.read_assignment.ensures.0 at-refusal.in-Refused.is in
+    line_written (from_dimacs_output crosses) (writes crosses refused) (long r.before.before.before.before.before.before.before.before.before) at-put-refused.put_refused.ensures
 
 returns-3 : tie.Need-returns-in-Graph
 returns-3 c =
@@ -58,7 +58,7 @@ returns-3 c =
     let at-s = at-put-own in
     let r = at-s in
     let crosses = (begun r.before.before.before.before.before.before.before.before.before.before.before.before.before).args.crosses.now in
-    all-written (from_dimacs_output crosses) (writes crosses (stored at-s.before.before.before.before.before.before.before.before).same) (long r.before.before.before.before.before.before.before.before.before.before.before.before.before) at-put-own.put_own.ensures
+    all_written (from_dimacs_output crosses) (writes crosses (stored at-s.before.before.before.before.before.before.before.before).same) (long r.before.before.before.before.before.before.before.before.before.before.before.before.before) at-put-own.put_own.ensures
 
 pub from_dimacs_output_spec : {M : Type 1} → statement M
 from_dimacs_output_spec =

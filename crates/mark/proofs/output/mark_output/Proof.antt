@@ -4,8 +4,8 @@ use lib.ListN.{length-take}
 use mathlib.Core.Path.{refl}
 use Rattle.report.specs.Report.{measured_line, line_room}
 use Rattle.report.specs.Programs.{mark_problem, mark_output}
-use Rattle.report.proofs.Runs.{run-goes, run_ends, answer-inside}
-use Rattle.problem_reader.proofs.Lent.{Stored, stored-problem, problem-ended, stored-in}
+use Rattle.report.proofs.Runs.{run-goes, run_ends, answer_inside}
+use Rattle.problem_reader.proofs.Lent.{Stored, stored_problem, problem_ended, stored_in}
 use borrow.Author.Rules.{rules}
 use Rattle.mark.proofs.output.mark_output.Statement.{statement}
 use Rattle.mark.proofs.output.mark_output.Tie as tie
@@ -18,13 +18,13 @@ begun c = c.before.before.before.before.before.before.before.before.before.befor
 stored : (c : tie.In-Read-2) →
     let at-read-problem = c in
     let d = at-read-problem.read_problem in
-    let a = (begun at-read-problem.before.before.before.before.before).args in
+    let a = (begun at-read-problem.before.before.before.before.before.before).args in
     Stored a.sheet.now a.limits.now c.in-Read.s d.new.row d.new.column d.new.weight d.new.bound
 stored c =
     let at-read-problem = c in
     let d = at-read-problem.read_problem in
-    let a = (begun at-read-problem.before.before.before.before.before).args in
-    stored-in a.sheet.now a.limits.now d.ensures.0 d.ensures.1 c.in-Read.is
+    let a = (begun at-read-problem.before.before.before.before.before.before).args in
+    stored_in a.sheet.now a.limits.now d.ensures.0 d.ensures.1 c.in-Read.is
     d.auto.row d.auto.column d.auto.weight d.auto.bound
 
 mark-problem-requires : tie.Need-mark_problem-requires
@@ -36,9 +36,9 @@ returns c =
     let at_source = c in
     let r = at_source in
     let a = (begun r.before.before.before.before.before.before.before.before.before).args in
-    answer-inside
+    answer_inside
     (run_ends line_room measured_line (λ P. mark_problem P.graph P.bound a.plan.now a.prices.now)
-    (problem-ended a.sheet.now a.limits.now r.read_problem.ensures.0 at_source.in-Refused.is)
+    (problem_ended a.sheet.now a.limits.now r.read_problem.ensures.0 at_source.in-Refused.is)
     refl c.put_refused.ensures)
 
 returns-2 : tie.Need-returns-in-Read
@@ -46,9 +46,9 @@ unfolding mark_output
 returns-2 c =
     let v = c in
     let a = (begun v.before.before.before.before.before.before.before.before.before.before.before.before.before.before.before).args in
-    answer-inside
+    answer_inside
     (run-goes line_room measured_line (λ P. mark_problem P.graph P.bound a.plan.now a.prices.now)
-    (stored-problem (stored v.before.before.before.before.before.before.before.before.before.before) v.vertex_count-n.ensures) c.mark_problem.ensures)
+    (stored_problem (stored v.before.before.before.before.before.before.before.before.before.before) v.vertex_count-n.ensures) c.mark_problem.ensures)
 
 pub mark_output_spec : {M : Type 1} → statement M
 mark_output_spec =

@@ -6,8 +6,8 @@ use native.Mathlib.Omega.{arith}
 use lib.IntN.{ℤ, pos}
 use lib.ListN.{length, take, replicate}
 use Rattle.graph.specs.Graph.{Graph, graph_of}
-use Rattle.lent.proofs.Parts.{first-long, PartBack, came-back}
-use Rattle.mark.proofs.Stages.{same_line, vertices-priced, plan-ends, plan-goes}
+use Rattle.lent.proofs.Parts.{first_long, PartBack, came_back}
+use Rattle.mark.proofs.Stages.{same_line, vertices-priced, plan_ends, plan_goes}
 use borrow.Author.Rules.{rules}
 use Rattle.mark.proofs.output.mark_plan.Statement.{statement}
 use Rattle.mark.proofs.output.mark_plan.Tie as tie
@@ -33,10 +33,10 @@ abbrev counted : tie.After-read_numbers → tie.After-vertex_count
 counted c = c.before.before.before
 
 back : (c : tie.After-read_numbers) → PartBack (count (counted c)) zeros c.read_numbers.new.out
-back c = came-back (count (counted c)) zeros (fits (counted c)) c.read_numbers.auto.out
+back c = came_back (count (counted c)) zeros (fits (counted c)) c.read_numbers.auto.out
 
 slice-aggregate-read-numbers : tie.Need-slice_bounds-read_numbers-end
-slice-aggregate-read-numbers c = first-long (count c.before.before) zeros (fits c.before.before)
+slice-aggregate-read-numbers c = first_long (count c.before.before) zeros (fits c.before.before)
 
 array-share-prefix-price : tie.Need-slice_bounds-price-end-in-Read
 array-share-prefix-price c = (back c.before.before).room
@@ -57,8 +57,8 @@ returns c =
     let v = (counted r.before.before.before.before.before.before).vertex_count in
     let s = c in
     same_line
-    (plan-ends (graph s.before.before.before.before.before.before.before.before.before.before.before.before.before.before.before) s.args.bound.now s.args.chosen.now s.args.prices.now n (length (take n zeros))
-    (ap (λ k. k + s.args.s.edges) v.ensures) (first-long n zeros (fits (counted r.before.before.before.before.before.before))) r.read_numbers.ensures.0 c.in-Refused.is)
+    (plan_ends (graph s.before.before.before.before.before.before.before.before.before.before.before.before.before.before.before) s.args.bound.now s.args.chosen.now s.args.prices.now n (length (take n zeros))
+    (ap (λ k. k + s.args.s.edges) v.ensures) (first_long n zeros (fits (counted r.before.before.before.before.before.before))) r.read_numbers.ensures.0 c.in-Refused.is)
     c.put_refused.ensures
 
 returns-2 : tie.Need-returns-in-Read
@@ -68,8 +68,8 @@ returns-2 c =
     let v = (counted r.before.before.before.before.before.before.before).vertex_count in
     let s = c in
     same_line
-    (plan-goes (graph s.before.before.before.before.before.before.before.before.before.before.before.before.before.before.before.before) s.args.bound.now s.args.chosen.now s.args.prices.now n (length (take n zeros))
-    (ap (λ k. k + s.args.s.edges) v.ensures) (first-long n zeros (fits (counted r.before.before.before.before.before.before.before))) r.read_numbers.ensures.0
+    (plan_goes (graph s.before.before.before.before.before.before.before.before.before.before.before.before.before.before.before.before) s.args.bound.now s.args.chosen.now s.args.prices.now n (length (take n zeros))
+    (ap (λ k. k + s.args.s.edges) v.ensures) (first_long n zeros (fits (counted r.before.before.before.before.before.before.before))) r.read_numbers.ensures.0
     c.in-Read.is (back r.before.before.before.before.before.before.before).same r.read_numbers.ensures.1)
     c.mark_prices.ensures
 

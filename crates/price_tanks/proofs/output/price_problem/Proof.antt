@@ -5,8 +5,8 @@ use mathlib.Core.Path.{◌≡◌, sym, ◌∙◌}
 use lib.IntN.{pos}
 use lib.ListN.{length, take, replicate}
 use Rattle.graph.specs.Graph.{Graph, graph_of, vertices}
-use Rattle.lent.proofs.Parts.{PartBack, came-back, zeros-lent}
-use Rattle.price_tanks.proofs.Answers.{refusal-left, prices-left}
+use Rattle.lent.proofs.Parts.{PartBack, came_back, zeros-lent}
+use Rattle.price_tanks.proofs.Answers.{refusal_left, prices_left}
 use borrow.Author.Rules.{rules}
 use Rattle.price_tanks.proofs.output.price_problem.Statement.{statement}
 use Rattle.price_tanks.proofs.output.price_problem.Tie as tie
@@ -33,10 +33,10 @@ edge-lent : (c : tie.After-price_general) → length (take (begun c).args.s.edge
 edge-lent c = sym (zeros-lent (pos 0) 1024 (begun c).requires.0.few)
 
 vertex-back : (c : tie.After-price_general) → PartBack (counted c).vertex_count-n.result (replicate 128 (pos 0)) c.price_general.new.vertex_price
-vertex-back c = came-back (counted c).vertex_count-n.result (replicate 128 (pos 0)) (room (counted c)) c.price_general.auto.vertex_price
+vertex-back c = came_back (counted c).vertex_count-n.result (replicate 128 (pos 0)) (room (counted c)) c.price_general.auto.vertex_price
 
 edge-back : (c : tie.After-price_general) → PartBack (begun c).args.s.edges (replicate 1024 (pos 0)) c.price_general.new.edge_price
-edge-back c = came-back (begun c).args.s.edges (replicate 1024 (pos 0)) (begun c).requires.0.few c.price_general.auto.edge_price
+edge-back c = came_back (begun c).args.s.edges (replicate 1024 (pos 0)) (begun c).requires.0.few c.price_general.auto.edge_price
 
 slice-aggregate-price-general : tie.Need-slice_bounds-price_general-end
 slice-aggregate-price-general c = zeros-lent (pos 0) 128 (room c.before.before)
@@ -55,7 +55,7 @@ returns c =
     let at-refusal = c in
     let r = at-refusal in
     let s = begun r.before.before.before.before.before.before.before in
-    refusal-left (graph s) s.args.bound.now (vertex-lent r.before.before.before.before.before.before.before) (edge-lent r.before.before.before.before.before.before.before) r.price_general.ensures.0 at-refusal.in-Refused.is s.requires.1
+    refusal_left (graph s) s.args.bound.now (vertex-lent r.before.before.before.before.before.before.before) (edge-lent r.before.before.before.before.before.before.before) r.price_general.ensures.0 at-refusal.in-Refused.is s.requires.1
     c.put_refused.ensures
 
 returns-2 : tie.Need-returns-in-Priced
@@ -64,7 +64,7 @@ returns-2 c =
     let r = at-enum-told in
     let s = begun r.before.before.before.before.before.before.before.before.before in
     let done = r.price_general.ensures in
-    prices-left (graph s) s.args.bound.now (vertex-lent r.before.before.before.before.before.before.before.before.before) (edge-lent r.before.before.before.before.before.before.before.before.before) done.0 at-enum-told.in-Priced.is done.1
+    prices_left (graph s) s.args.bound.now (vertex-lent r.before.before.before.before.before.before.before.before.before) (edge-lent r.before.before.before.before.before.before.before.before.before) done.0 at-enum-told.in-Priced.is done.1
     (vertex-back r.before.before.before.before.before.before.before.before.before).same (edge-back r.before.before.before.before.before.before.before.before.before).same s.requires.1 c.put_numbers.ensures
 
 pub price_problem_spec : {M : Type 1} → statement M

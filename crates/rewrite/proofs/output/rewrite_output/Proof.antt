@@ -4,8 +4,8 @@ use native.Mathlib.Omega.{arith}
 use borrow.Author.Rules.{rules}
 use Rattle.layout.specs.Text.{bytes}
 use Rattle.layout.specs.Rewrite.{rewrite_output}
-use Rattle.digits.proofs.Over.{puts-same}
-use Rattle.report.proofs.Parts.{line-is, no_room, text-composed, composed-inside}
+use Rattle.digits.proofs.Over.{puts_same}
+use Rattle.report.proofs.Parts.{line_is, no_room, text_composed, composed_inside}
 use Rattle.old_text.proofs.Taken.{taken-fits}
 use Rattle.rewriting.proofs.Anew.{output-anew, output-line}
 use Rattle.rewrite.proofs.output.rewrite_output.Statement.{statement}
@@ -17,7 +17,7 @@ returns c =
     let start = at-clear-bytes in
     let a = start.args in
     let C = no_room 32768 (rewrite_output a.text.now) a.out.now at-clear-bytes.clear_bytes.ensures c.if-out-lt-LONGEST_TEXT.true in
-    (composed-inside C, C)
+    (composed_inside C, C)
 
 put-text-requires : tie.Need-put_text-requires
 put-text-requires c κs =
@@ -33,9 +33,9 @@ returns-2 c =
     let at-clear-bytes = at-if1 in
     let start = at-clear-bytes in
     let a = start.args in
-    let C = text-composed 32768 (rewrite_output a.text.now) a.out.now at-clear-bytes.clear_bytes.ensures at-if1.if-out-lt-LONGEST_TEXT.false
-    (puts-same c.put_text.ensures (sym (output-anew a.text.now (sym at-is-taken.is_taken.ensures ∙ at-if2.if-is_taken.true)))) in
-    (composed-inside C, C)
+    let C = text_composed 32768 (rewrite_output a.text.now) a.out.now at-clear-bytes.clear_bytes.ensures at-if1.if-out-lt-LONGEST_TEXT.false
+    (puts_same c.put_text.ensures (sym (output-anew a.text.now (sym at-is-taken.is_taken.ensures ∙ at-if2.if-is_taken.true)))) in
+    (composed_inside C, C)
 
 returns-3 : tie.Need-returns-else-is_taken
 returns-3 c =
@@ -45,10 +45,10 @@ returns-3 c =
     let at-clear-bytes = at-if1 in
     let start = at-clear-bytes in
     let a = start.args in
-    let C = text-composed 32768 (rewrite_output a.text.now) a.out.now at-clear-bytes.clear_bytes.ensures at-if1.if-out-lt-LONGEST_TEXT.false
-    (puts-same c.put_bytes.ensures
-    (line-is (bytes "cannot read") ∙ sym (output-line a.text.now (sym at-is-taken.is_taken.ensures ∙ at-if2.if-is_taken.false)))) in
-    (composed-inside C, C)
+    let C = text_composed 32768 (rewrite_output a.text.now) a.out.now at-clear-bytes.clear_bytes.ensures at-if1.if-out-lt-LONGEST_TEXT.false
+    (puts_same c.put_bytes.ensures
+    (line_is (bytes "cannot read") ∙ sym (output-line a.text.now (sym at-is-taken.is_taken.ensures ∙ at-if2.if-is_taken.false)))) in
+    (composed_inside C, C)
 
 pub rewrite_output_spec : {M : Type 1} → statement M
 rewrite_output_spec =

@@ -5,8 +5,8 @@ use mathlib.Core.Path.{◌≡◌}
 use lib.ListN.{drop}
 use Rattle.graph.specs.Graph.{Graph, graph_of}
 use Rattle.report.specs.Programs.{lent_for}
-use Rattle.lent.proofs.Parts.{PartBack, came-back, zeros-lent}
-use Rattle.solve.proofs.Answers.{no_marks, lent_parts, all-lent, refusal-left, solved-passed, part-marks, part-written}
+use Rattle.lent.proofs.Parts.{PartBack, came_back, zeros-lent}
+use Rattle.solve.proofs.Answers.{no_marks, lent_parts, all_lent, refusal_left, solved_passed, part-marks, part-written}
 use borrow.Author.Rules.{rules}
 use Rattle.solve.proofs.output.solve_indexed.Statement.{statement}
 use Rattle.solve.proofs.output.solve_indexed.Tie as tie
@@ -23,10 +23,10 @@ abbrev begun : tie.After-solve → tie.Start
 begun c = (counted c).before.before.before.before.before
 
 lent : (c : tie.After-solve) → lent_parts (graph (begun c)) (counted c).vertex_count-n.result ≡ lent_for (graph (begun c))
-lent c = all-lent (graph (begun c)) (begun c).requires.0 (counted c).vertex_count-n.ensures
+lent c = all_lent (graph (begun c)) (begun c).requires.0 (counted c).vertex_count-n.ensures
 
 back : (c : tie.After-solve) → PartBack (begun c).args.s.edges no_marks c.solve.new.chosen
-back c = came-back (begun c).args.s.edges no_marks (begun c).requires.0.few c.solve.auto.chosen
+back c = came_back (begun c).args.s.edges no_marks (begun c).requires.0.few c.solve.auto.chosen
 
 slice-aggregate-solve : tie.Need-slice_bounds-solve-end
 slice-aggregate-solve c = zeros-lent 0 1024 c.requires.0.few
@@ -53,7 +53,7 @@ put-subgraph-requires c κs =
     let is = c.in-Solved.is in (
       s.requires.1,
       (
-        (solved-passed (graph s) s.args.bound.now s.args.index.now (lent r.before.before.before.before.before.before.before) done.0 is done.1).sound,
+        (solved_passed (graph s) s.args.bound.now s.args.index.now (lent r.before.before.before.before.before.before.before) done.0 is done.1).sound,
         part-marks (graph s) s.args.bound.now s.args.index.now (lent r.before.before.before.before.before.before.before) done.0 is done.1 (drop s.args.s.edges no_marks),
       ),
     )
@@ -63,7 +63,7 @@ returns c =
     let at-refusal = c in
     let r = at-refusal in
     let s = begun r.before.before.before.before.before.before.before.before.before in
-    refusal-left (graph s) s.args.bound.now s.args.index.now (lent r.before.before.before.before.before.before.before.before.before) r.solve.ensures.0 at-refusal.in-Refused.is s.requires.1
+    refusal_left (graph s) s.args.bound.now s.args.index.now (lent r.before.before.before.before.before.before.before.before.before) r.solve.ensures.0 at-refusal.in-Refused.is s.requires.1
     c.put_refused.ensures
 
 returns-2 : tie.Need-returns-in-Solved

@@ -2,8 +2,8 @@
 use native.Mathlib.Omega.{arith}
 use mathlib.Core.Path.{◌≡◌}
 use lib.ListN.{length, length-take}
-use Rattle.problem_reader.proofs.Lent.{Stored, stored-problem, problem-ended, stored-in}
-use Rattle.solve.proofs.Answers.{refusal-written, solution-written, nothing_written}
+use Rattle.problem_reader.proofs.Lent.{Stored, stored_problem, problem_ended, stored_in}
+use Rattle.solve.proofs.Answers.{refusal_written, solution_written, nothing_written}
 use borrow.Author.Rules.{rules}
 use Rattle.solve.proofs.output.solve_output.Statement.{statement}
 use Rattle.solve.proofs.output.solve_output.Tie as tie
@@ -19,13 +19,13 @@ long c = c.if-out-ne-SUBGRAPH_BYTES.false
 stored : (c : tie.In-Read-2) →
     let at-read-problem = c in
     let d = at-read-problem.read_problem in
-    let a = (begun at-read-problem.before.before.before.before.before).args in
+    let a = (begun at-read-problem.before.before.before.before.before.before).args in
     Stored a.sheet.now a.limits.now c.in-Read.s d.new.row d.new.column d.new.weight d.new.bound
 stored c =
     let at-read-problem = c in
     let d = at-read-problem.read_problem in
-    let a = (begun at-read-problem.before.before.before.before.before).args in
-    stored-in a.sheet.now a.limits.now d.ensures.0 d.ensures.1 c.in-Read.is
+    let a = (begun at-read-problem.before.before.before.before.before.before).args in
+    stored_in a.sheet.now a.limits.now d.ensures.0 d.ensures.1 c.in-Read.is
     d.auto.row d.auto.column d.auto.weight d.auto.bound
 
 returns : tie.Need-returns-then-out-ne-SUBGRAPH_BYTES
@@ -45,15 +45,15 @@ returns-2 c =
     let at_source = c in
     let r = at_source in
     let a = (begun r.before.before.before.before.before.before.before.before.before).args in
-    refusal-written a.sheet.now a.limits.now
-    (problem-ended a.sheet.now a.limits.now r.read_problem.ensures.0 at_source.in-Refused.is)
+    refusal_written a.sheet.now a.limits.now
+    (problem_ended a.sheet.now a.limits.now r.read_problem.ensures.0 at_source.in-Refused.is)
     (long r.before.before.before.before.before.before.before.before.before) c.put_refused.ensures
 
 returns-3 : tie.Need-returns-in-Read
 returns-3 c =
     let v = c in
     let a = (begun v.before.before.before.before.before.before.before.before.before.before.before.before.before.before.before).args in
-    solution-written a.sheet.now a.limits.now (stored-problem (stored v.before.before.before.before.before.before.before.before.before.before) v.vertex_count-n.ensures)
+    solution_written a.sheet.now a.limits.now (stored_problem (stored v.before.before.before.before.before.before.before.before.before.before) v.vertex_count-n.ensures)
     c.solve_problem.ensures
 
 pub solve_output_spec : {M : Type 1} → statement M

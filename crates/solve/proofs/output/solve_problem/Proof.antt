@@ -4,8 +4,8 @@ use mathlib.Core.Path.{◌≡◌, sym, ◌∙◌}
 use lib.ListN.{length, take}
 use Rattle.graph.specs.Graph.{Graph, graph_of}
 use Rattle.graph.specs.Index.{index_numbers}
-use Rattle.lent.proofs.Parts.{PartBack, came-back, zeros-lent}
-use Rattle.solve.proofs.Answers.{no_index, index-fits, index-refused, index-solved}
+use Rattle.lent.proofs.Parts.{PartBack, came_back, zeros-lent}
+use Rattle.solve.proofs.Answers.{no_index, index_fits, index_refused, index_solved}
 use borrow.Author.Rules.{rules}
 use Rattle.solve.proofs.output.solve_problem.Statement.{statement}
 use Rattle.solve.proofs.output.solve_problem.Tie as tie
@@ -27,16 +27,16 @@ size c = (counted c).index_numbers-k.result
 lent : (c : tie.After-build_index) → length (take (size c) no_index) ≡ index_numbers (graph (begun c))
 lent c =
     let is = (counted c).index_numbers-k.ensures in
-    sym (zeros-lent 0 2177 (index-fits (graph (begun c)) (begun c).requires.0 is)) ∙ is
+    sym (zeros-lent 0 2177 (index_fits (graph (begun c)) (begun c).requires.0 is)) ∙ is
 
 back : (c : tie.After-build_index) → PartBack (size c) no_index c.build_index.new.index
 back c =
-    came-back (size c) no_index (index-fits (graph (begun c)) (begun c).requires.0 (counted c).index_numbers-k.ensures) c.build_index.auto.index
+    came_back (size c) no_index (index_fits (graph (begun c)) (begun c).requires.0 (counted c).index_numbers-k.ensures) c.build_index.auto.index
 
 slice-aggregate-build-index : tie.Need-slice_bounds-build_index-end
 slice-aggregate-build-index c =
     let s = c in
-    zeros-lent 0 2177 (index-fits (graph s.before.before.before.before.before) s.requires.0 c.index_numbers-k.ensures)
+    zeros-lent 0 2177 (index_fits (graph s.before.before.before.before.before) s.requires.0 c.index_numbers-k.ensures)
 
 array-share-prefix-index : tie.Need-slice_bounds-index-end-in-Indexed
 array-share-prefix-index c = (back c.before.before).room
@@ -48,7 +48,7 @@ returns : tie.Need-returns-in-Refused
 returns c =
     let b = c in
     let s = begun b.before.before.before.before.before.before in
-    index-refused (graph s) s.args.bound.now (lent b.before.before.before.before.before.before) b.build_index.ensures.0 c.in-Refused.is s.requires.1
+    index_refused (graph s) s.args.bound.now (lent b.before.before.before.before.before.before) b.build_index.ensures.0 c.in-Refused.is s.requires.1
     c.put_refused.ensures
 
 returns-2 : tie.Need-returns-in-Indexed
@@ -56,7 +56,7 @@ returns-2 c =
     let b = c in
     let s = begun b.before.before.before.before.before.before.before in
     let done = b.build_index.ensures in
-    index-solved (graph s) s.args.bound.now (lent b.before.before.before.before.before.before.before) done.0 c.in-Indexed.is ((back b.before.before.before.before.before.before.before).same ∙ done.1)
+    index_solved (graph s) s.args.bound.now (lent b.before.before.before.before.before.before.before) done.0 c.in-Indexed.is ((back b.before.before.before.before.before.before.before).same ∙ done.1)
     c.solve_indexed.ensures
 
 pub solve_problem_spec : {M : Type 1} → statement M

@@ -4,9 +4,9 @@ use native.Mathlib.Omega.{arith}
 use borrow.Author.Rules.{rules}
 use lib.ListN.{length, length-take}
 use Rattle.report.specs.Programs.{tidy_run, tidy_output, whole_text_room}
-use Rattle.report.proofs.Runs.{run-goes, run_ends, answer-inside, line-fits, nothing_left}
-use Rattle.problem_reader.proofs.Kept.{graph-refused}
-use Rattle.problem_reader.proofs.Graphs.{GraphStored, graph-stored, lent_graph, sheet-whole, sheet-came}
+use Rattle.report.proofs.Runs.{run-goes, run_ends, answer_inside, line-fits, nothing_left}
+use Rattle.problem_reader.proofs.Kept.{graph_refused}
+use Rattle.problem_reader.proofs.Graphs.{GraphStored, graph_stored, lent_graph, sheet-whole, sheet-came}
 use Rattle.tidy.proofs.output.tidy_output.Statement.{statement}
 use Rattle.tidy.proofs.output.tidy_output.Tie as tie
 
@@ -25,7 +25,7 @@ stored : (c : tie.In-Graph-2) →
 stored c =
     let r = c in
     let d = r.read_graph in
-    graph-stored (sheet-whole (begun r.before.before.before.before).args.sheet.now) d.ensures.0 c.in-Graph.is d.ensures.1.0 d.ensures.1.1.0 d.ensures.1.1.1
+    graph_stored (sheet-whole (begun r.before.before.before.before).args.sheet.now) d.ensures.0 c.in-Graph.is d.ensures.1.0 d.ensures.1.1.0 d.ensures.1.1.1
     d.auto.row d.auto.column d.auto.weight
 
 returns : tie.Need-returns-then-out-ne-LONGEST_TEXT
@@ -41,9 +41,9 @@ unfolding tidy_output
 returns-2 c =
     let at-refusal = c in
     let r = at-refusal in
-    answer-inside
+    answer_inside
     (run_ends whole_text_room (λ text. text) tidy_run
-    (sheet-came (begun r.before.before.before.before.before.before.before.before).args.sheet.now (graph-refused r.read_graph.ensures.0 at-refusal.in-Refused.is))
+    (sheet-came (begun r.before.before.before.before.before.before.before.before).args.sheet.now (graph_refused r.read_graph.ensures.0 at-refusal.in-Refused.is))
     (line-fits 32768 (omega arith) (long r.before.before.before.before.before.before.before.before)) c.put_refused.ensures)
 
 returns-3 : tie.Need-returns-in-Graph
@@ -51,7 +51,7 @@ unfolding tidy_output
 returns-3 c =
     let at-s = c in
     let sheet = (begun at-s.before.before.before.before.before.before.before.before.before.before.before.before).args.sheet.now in
-    answer-inside (run-goes whole_text_room (λ text. text) tidy_run (sheet-came sheet (stored at-s.before.before.before.before.before.before.before.before).same) c.tidy_read.ensures)
+    answer_inside (run-goes whole_text_room (λ text. text) tidy_run (sheet-came sheet (stored at-s.before.before.before.before.before.before.before.before).same) c.tidy_read.ensures)
 
 pub tidy_output_spec : {M : Type 1} → statement M
 tidy_output_spec =

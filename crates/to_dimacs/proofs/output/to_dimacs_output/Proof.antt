@@ -3,8 +3,8 @@ use native.Mathlib.Omega.{arith}
 use mathlib.Core.Path.{◌≡◌}
 use lib.ListN.{length, length-take}
 use Rattle.report.specs.Programs.{to_dimacs_run, to_dimacs_output, whole_text_room}
-use Rattle.report.proofs.Runs.{run-goes, run_ends, answer-inside, line-fits, nothing_left}
-use Rattle.problem_reader.proofs.Lent.{Stored, stored-problem, problem-ended, stored-in}
+use Rattle.report.proofs.Runs.{run-goes, run_ends, answer_inside, line-fits, nothing_left}
+use Rattle.problem_reader.proofs.Lent.{Stored, stored_problem, problem_ended, stored_in}
 use borrow.Author.Rules.{rules}
 use Rattle.to_dimacs.proofs.output.to_dimacs_output.Statement.{statement}
 use Rattle.to_dimacs.proofs.output.to_dimacs_output.Tie as tie
@@ -20,13 +20,13 @@ long c = c.if-out-ne-LONGEST_TEXT.false
 stored : (c : tie.In-Read-2) →
     let at-read-problem = c in
     let d = at-read-problem.read_problem in
-    let a = (begun at-read-problem.before.before.before.before.before).args in
+    let a = (begun at-read-problem.before.before.before.before.before.before).args in
     Stored a.sheet.now a.limits.now c.in-Read.s d.new.row d.new.column d.new.weight d.new.bound
 stored c =
     let at-read-problem = c in
     let d = at-read-problem.read_problem in
-    let a = (begun at-read-problem.before.before.before.before.before).args in
-    stored-in a.sheet.now a.limits.now d.ensures.0 d.ensures.1 c.in-Read.is
+    let a = (begun at-read-problem.before.before.before.before.before.before).args in
+    stored_in a.sheet.now a.limits.now d.ensures.0 d.ensures.1 c.in-Read.is
     d.auto.row d.auto.column d.auto.weight d.auto.bound
 
 returns : tie.Need-returns-then-out-ne-LONGEST_TEXT
@@ -47,17 +47,17 @@ returns-2 c =
     let at_source = c in
     let r = at_source in
     let a = (begun r.before.before.before.before.before.before.before.before.before).args in
-    answer-inside
+    answer_inside
     (run_ends whole_text_room (λ text. text) to_dimacs_run
-    (problem-ended a.sheet.now a.limits.now r.read_problem.ensures.0 at_source.in-Refused.is)
+    (problem_ended a.sheet.now a.limits.now r.read_problem.ensures.0 at_source.in-Refused.is)
     (line-fits 32768 (omega arith) (long r.before.before.before.before.before.before.before.before.before)) c.put_refused.ensures)
 
 returns-3 : tie.Need-returns-in-Read
 unfolding to_dimacs_output
 returns-3 c =
     let v = c in
-    answer-inside
-    (run-goes whole_text_room (λ text. text) to_dimacs_run (stored-problem (stored v.before.before.before.before.before.before.before.before.before.before) v.vertex_count-n.ensures)
+    answer_inside
+    (run-goes whole_text_room (λ text. text) to_dimacs_run (stored_problem (stored v.before.before.before.before.before.before.before.before.before.before) v.vertex_count-n.ensures)
     c.write_problem.ensures)
 
 pub to_dimacs_output_spec : {M : Type 1} → statement M

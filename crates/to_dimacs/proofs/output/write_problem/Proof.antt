@@ -2,7 +2,7 @@
 use borrow.Author.Rules.{rules}
 use Rattle.graph.specs.Graph.{Graph, graph_of}
 use Rattle.layout.specs.AssignmentText.{write_assignment}
-use Rattle.problem_reader.proofs.Texts.{text-left, refusal-left}
+use Rattle.problem_reader.proofs.Texts.{text_left, refusal_left}
 use Rattle.to_dimacs.proofs.output.write_problem.Statement.{statement}
 use Rattle.to_dimacs.proofs.output.write_problem.Tie as tie
 
@@ -15,7 +15,7 @@ returns c =
     let call = c in
     let s = call in
     let done = call.write_assignment.ensures in
-    text-left (write_assignment (graph s.before.before.before.before.before.before.before.before) s.args.bound.now) s.requires done.0 c.in-Written.is done.1
+    text_left (write_assignment (graph s.before.before.before.before.before.before.before.before) s.args.bound.now) s.requires done.0 c.in-Written.is done.1
 
 returns-2 : tie.Need-returns-in-Refused
 returns-2 c =
@@ -23,7 +23,7 @@ returns-2 c =
     let call = refusal in
     let s = call in
     let d = call.write_assignment in
-    refusal-left (write_assignment (graph s.before.before.before.before.before.before.before.before.before.before.before.before) s.args.bound.now) s.requires d.ensures.0 refusal.in-Refused.is d.auto.out
+    refusal_left (write_assignment (graph s.before.before.before.before.before.before.before.before.before.before.before.before) s.args.bound.now) s.requires d.ensures.0 refusal.in-Refused.is d.auto.out
     c.put_refused.ensures
 
 pub write_problem_spec : {M : Type 1} → statement M
