@@ -2,7 +2,7 @@
 use Prim.Native.Nat.{◌+◌, ◌*◌}
 use mathlib.Core.Path.{◌≡◌, sym, ap, ap₂, ◌∙◌}
 use native.Mathlib.Omega.{arith}
-use lib.IntN.{ℤ, pos, ◌*ℤ◌}
+use lib.IntN.{ℤ, pos, ◌*ℤ◌, ◌+ℤ◌}
 use mir.Syntax.{w64}
 use Rattle.integers.specs.Integer.{up, dn, Within}
 use Rattle.integers.proofs.Order.{up-times, two_times, back}

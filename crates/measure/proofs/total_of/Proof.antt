@@ -1,4 +1,5 @@
 -- The three parts are added up.
+use lib.IntN.{◌+ℤ◌}
 use mathlib.Core.Path.{ap₂, ◌∙◌}
 use native.Mathlib.Omega.{arith}
 use borrow.Author.Rules.{rules}

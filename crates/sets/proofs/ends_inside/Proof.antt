@@ -1,4 +1,5 @@
 -- The two ends, each as a number.
+use Prim.Native.Nat.{◌+◌}
 use mathlib.Core.Path.{ap, ap₂, ◌∙◌}
 use Rattle.dual.specs.Sets.{one}
 use borrow.Author.Rules.{rules}

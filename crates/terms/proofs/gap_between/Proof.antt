@@ -1,4 +1,5 @@
 -- The weight in half points is taken off the total.
+use lib.IntN.{◌-ℤ◌}
 use Prim.Native.Nat.{◌^◌}
 use mathlib.Core.Path.{ap, ap₂, ◌∙◌}
 use native.Mathlib.Omega.{arith}
