@@ -17,7 +17,7 @@ use Rattle.graph.specs.Doubled.{doubled, doubled_bounds}
 use Rattle.dual.specs.Gap.{half_points}
 use Rattle.doubling.specs.Doublable.{Doublable}
 use Rattle.doubling.proofs.Halves.{halves, in_first, in_second, both_long}
-use Rattle.doubling.proofs.Doubled.{general-vertices, general-second, ends_below, row_first, column_first, weight_first, row_second, column_second, general-vertices, general-second, ends_below, row_first, column_first, weight_first, row_second, column_second}
+use Rattle.doubling.proofs.Doubled.{general-vertices, general-second, ends_below, row_first, column_first, weight_first, row_second, column_second}
 use Rattle.doubling.proofs.Doubled.{weight_second, bound_first, bound_second}
 
 -- ---- ends on one side

@@ -17,7 +17,7 @@ use Rattle.dual.specs.Solve.{Lent, Outputs, solve, solver_prices, SolverPrice, S
 use Rattle.duality.proofs.Conditions.{Incident, DualFeasible}
 use Rattle.duality.specs.Meaning.{Meaning, Certified}
 use Rattle.duality.proofs.Passed.{passed_incident, PriceRange, Priced, unset_priced, priced_dual, measure-passed, measure-takes, solve-passed}
-use Rattle.duality.proofs.Duality.{slacks_add, within-capacity, vertex_slack-nonneg, set_slack-nonneg, edge_slack-nonneg, cover_slack-nonneg, slacks_add, within-capacity, vertex_slack-nonneg, set_slack-nonneg, edge_slack-nonneg, cover_slack-nonneg}
+use Rattle.duality.proofs.Duality.{slacks_add, within-capacity, vertex_slack-nonneg, set_slack-nonneg, edge_slack-nonneg, cover_slack-nonneg}
 use Rattle.duality.proofs.Duality.{gap_bound, no_gap}
 
 -- ---- differences, in half points

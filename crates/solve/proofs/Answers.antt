@@ -29,7 +29,7 @@ use Rattle.writer.specs.Written.{Written}
 use Rattle.report.specs.declared.Source.{Source}
 use Rattle.report.specs.declared.Source.TheVariants as Source
 use Rattle.report.specs.Report.{refused_line, line_room, Composed}
-use Rattle.report.specs.Programs.{Run, has, ends, came_from, and_then, written, Problem, problem_in, lent_for, solve_indexed, solve_problem, solve_output, subgraph_room, Run, has, ends, came_from, and_then, written, Problem, problem_in, lent_for, solve_indexed, solve_problem, solve_output, subgraph_room}
+use Rattle.report.specs.Programs.{Run, has, ends, came_from, and_then, written, Problem, problem_in, lent_for, solve_indexed, solve_problem, solve_output, subgraph_room}
 use Rattle.report.specs.Programs.{SolveComposed}
 use Rattle.report.proofs.Parts.{composed_inside, exact_none, exact_text, exact_line}
 use Rattle.report.proofs.Runs.{run-goes, run_ends, line-fits}

@@ -20,7 +20,7 @@ long : (c : tie.After-read_assignment) → length (begun c).args.out.now ≡ 327
 long c = c.if-out-ne-LONGEST_TEXT.false
 
 -- The graph that was read stands in the three arrays.
-stored : (c : tie.In-Graph-2) →
+stored : (c : tie.In-Graph) →
     let r = c in
     let d = r.read_assignment in
     GraphStored (lent_assignment (begun r.before.before.before.before.before).args.crosses.now) c.in-Graph.s d.new.row d.new.column d.new.weight

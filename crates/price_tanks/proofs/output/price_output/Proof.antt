@@ -16,15 +16,15 @@ long : (c : tie.After-read_problem) → length (begun c).args.out.now ≡ 32768
 long c = c.if-out-ne-LONGEST_TEXT.false
 
 -- The problem that was read stands in the four arrays.
-stored : (c : tie.In-Read-2) →
+stored : (c : tie.In-Read) →
     let at-read-problem = c in
     let d = at-read-problem.read_problem in
-    let a = (begun at-read-problem.before.before.before.before.before.before).args in
+    let a = (begun at-read-problem.before.before.before.before.before).args in
     Stored a.sheet.now a.limits.now c.in-Read.s d.new.row d.new.column d.new.weight d.new.bound
 stored c =
     let at-read-problem = c in
     let d = at-read-problem.read_problem in
-    let a = (begun at-read-problem.before.before.before.before.before.before).args in
+    let a = (begun at-read-problem.before.before.before.before.before).args in
     stored_in a.sheet.now a.limits.now d.ensures.0 d.ensures.1 c.in-Read.is
     d.auto.row d.auto.column d.auto.weight d.auto.bound
 

@@ -18,7 +18,7 @@ long : (c : tie.After-read_graph) → length (begun c).args.out.now ≡ 32768
 long c = c.if-out-ne-LONGEST_TEXT.false
 
 -- The graph that was read stands in the three arrays.
-stored : (c : tie.In-Graph-2) →
+stored : (c : tie.In-Graph) →
     let r = c in
     let d = r.read_graph in
     GraphStored (lent_graph (begun r.before.before.before.before).args.sheet.now) c.in-Graph.s d.new.row d.new.column d.new.weight
