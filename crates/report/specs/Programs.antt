@@ -70,13 +70,10 @@ read_problem r c w b sheet limits =
 abbrev pub problem_in : List ℕ → List ℕ → Run Problem
 problem_in sheet limits = read_problem most_edges most_edges most_edges most_vertices sheet limits
 
--- A price text has first the prices of the vertices and then those of the edges, and no odd sets.
-abbrev pub prices_from : Graph → List ℤ → Prices
-prices_from g zs = without_sets (take (vertices g) zs) (drop (vertices g) zs)
-
--- `mark` also reads plan.mtx and prices.mtx.
+-- `mark` also reads plan.mtx and prices.mtx, first the prices of the vertices and then those of the edges, and takes no odd sets.
 abbrev pub mark_prices : Graph → List ℤ → List ℕ → List ℤ → Run Measures
-mark_prices g bound x prices = came_from Source.Input (measure g bound x (prices_from g prices))
+mark_prices g bound x prices =
+    came_from Source.Input (measure g bound x (without_sets (take (vertices g) prices) (drop (vertices g) prices)))
 
 abbrev pub mark_plan : Graph → List ℤ → List ℕ → List ℕ → Run Measures
 mark_plan g bound x prices =
@@ -147,6 +144,10 @@ to_dimacs_output sheet limits = written (λ text. text) (and_then (problem_in sh
 -- What `from_dimacs` writes of the text of crosses.asn: the text of its graph, in the graph's own order.
 unfoldable pub from_dimacs_output : List ℕ → List ℕ
 from_dimacs_output crosses = written graph_text (came_from Source.Assignment (read_assignment most_edges most_edges most_edges most_vertices crosses))
+
+-- A price text has first the prices of the vertices and then those of the edges, and no odd sets.
+abbrev pub prices_from : Graph → List ℤ → Prices
+prices_from g zs = without_sets (take (vertices g) zs) (drop (vertices g) zs)
 
 -- `price_tanks` lends the call that prices its problem's graph just the lengths that the graph gives.
 abbrev pub price_problem : Graph → List ℤ → Run (Unit {0})
