@@ -40,7 +40,7 @@
  * are taken as passed, whatever they are, and tested.
  *
  * The calls use no heap, no files and no state of their own, so they are reentrant: several may run at a time, each with its own
- * slices. JANGORIPU_STACK bytes of stack are enough for a call: that is measured (55 KiB at most), and unlike the rest not proved. */
+ * slices. JANGORIPU_STACK bytes of stack are enough for a call: that is measured (58 KiB at most), and unlike the rest not proved. */
 #ifndef JANGORIPU_H
 #define JANGORIPU_H
 
