@@ -36,14 +36,14 @@ module _ (old : List ℕ) (k e h w : ℕ) (long : length old ≡ most_arcs) (low
         get_or-set_other two (2 * most_edges + k) k w 0 (λ s. omega (arith, s))
         ∙ get_or-set_other one (most_edges + k) k h 0 (λ s. omega (arith, s))
         ∙ get_or-set_same old k e 0 (omega (arith, long));
-    head-here =
+    head_here =
         get_or-set_other two (2 * most_edges + k) (most_edges + k) w 0 (λ s. omega (arith, s))
         ∙ get_or-set_same one (most_edges + k) h 0 (simp length-set (omega (arith, long)))
         ∙ a;
-    value-here = get_or-set_same two (2 * most_edges + k) w 0 (simp length-set (omega (arith, long))) ∙ b;
+    value_here = get_or-set_same two (2 * most_edges + k) w 0 (simp length-set (omega (arith, long))) ∙ b;
     edge_other = λ j l n. other j n (λ s. omega (arith, s)) (λ s. omega (arith, s));
-    head-other = λ j l n. other (most_edges + j) (λ s. omega (arith, s)) (λ s. n (omega (arith, s))) (λ s. omega (arith, s));
-    value-other = λ j l n. other (2 * most_edges + j) (λ s. omega (arith, s)) (λ s. omega (arith, s)) (λ s. n (omega (arith, s)));
+    head_other = λ j l n. other (most_edges + j) (λ s. omega (arith, s)) (λ s. n (omega (arith, s))) (λ s. omega (arith, s));
+    value_other = λ j l n. other (2 * most_edges + j) (λ s. omega (arith, s)) (λ s. omega (arith, s)) (λ s. n (omega (arith, s)));
     long = simp length-set refl;
   }
 
@@ -69,8 +69,8 @@ pub same-stored : {from k e h w : ℕ} {first old new : List ℕ} → from ≤ k
     SameArcs from first new
 same-stored l m same s = record {
   edge = λ j b. s.edge_other j (omega arith) (λ i. omega (arith, i)) ∙ same.edge j b;
-  head = λ j b. s.head-other j (omega arith) (λ i. omega (arith, i)) ∙ same.head j b;
-  value = λ j b. s.value-other j (omega arith) (λ i. omega (arith, i)) ∙ same.value j b;
+  head = λ j b. s.head_other j (omega arith) (λ i. omega (arith, i)) ∙ same.head j b;
+  value = λ j b. s.value_other j (omega arith) (λ i. omega (arith, i)) ∙ same.value j b;
 }
 
 -- An entry stays where the three lists stay.
@@ -99,7 +99,7 @@ module _ {rows : ℕ} {column : List ℕ} {weight : List ℤ} {keep : ℕ → Bo
     before j a b =
         let l : j < most_edges = omega (arith, few) in
         let n : j ≡ k → ⊥ = λ s. omega (arith, s) in
-        still (K.each j a b) (s.edge_other j l n) (s.head-other j l n) (s.value-other j l n)
+        still (K.each j a b) (s.edge_other j l n) (s.head_other j l n) (s.value_other j l n)
 
     here : ArcEntry rows column weight edge_at from (i + 1) arc' k
     here = record {
@@ -107,8 +107,8 @@ module _ {rows : ℕ} {column : List ℕ} {weight : List ℤ} {keep : ℕ → Bo
       low = omega (arith, K.low, K.high);
       high = omega arith;
       is = s.edge_here ∙ at;
-      column_is = s.head-here ∙ ap (head_vertex rows column) (sym s.edge_here);
-      weight_is = s.value-here ∙ ap (listed_value weight) (sym s.edge_here);
+      column_is = s.head_here ∙ ap (head_vertex rows column) (sym s.edge_here);
+      weight_is = s.value_here ∙ ap (listed_value weight) (sym s.edge_here);
     }
 
     -- Where edges before it are kept, they still are.

@@ -34,11 +34,11 @@ pub record Keepable (rows : ℕ) (column : List ℕ) (weight : List ℤ) (e : �
 -- An edge, its column vertex and its weight are stored at place k, and those at other places stay.
 pub record ArcStored (k edge head raised : ℕ) (old new : List ℕ) : Type 0 where
   pub edge_here : edges new k ≡ edge
-  pub head-here : heads new k ≡ head
-  pub value-here : values new k ≡ raised
+  pub head_here : heads new k ≡ head
+  pub value_here : values new k ≡ raised
   pub edge_other : (j : ℕ) → j < most_edges → j ≢ k → edges new j ≡ edges old j
-  pub head-other : (j : ℕ) → j < most_edges → j ≢ k → heads new j ≡ heads old j
-  pub value-other : (j : ℕ) → j < most_edges → j ≢ k → values new j ≡ values old j
+  pub head_other : (j : ℕ) → j < most_edges → j ≢ k → heads new j ≡ heads old j
+  pub value_other : (j : ℕ) → j < most_edges → j ≢ k → values new j ≡ values old j
   pub long : length new ≡ length old
 
 -- The edge at place i of an index of n vertices can be read, and kept at that place or before.
