@@ -55,7 +55,8 @@ pub fn put_signed(out: &mut [u8], at: usize, z: i64) -> usize
     ensures { Puts out.old at (signed z) out.new result × (result ≤ at + 21) }
 {
     let n = magnitude(z);
-    if z < 0 {
+    let below = z < 0;
+    if below {
         out[at] = 45;
         put_decimal(out, at + 1, n)
     } else {

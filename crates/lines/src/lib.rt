@@ -71,7 +71,8 @@ fn find_line(s: &[u8], from: Cursor, what: Skipped) -> FoundLine
             }
             Line::Part { start, end, next } => {
                 let line = &s[start..end];
-                if line.len() > LONGEST_LINE {
+                let long = line.len() > LONGEST_LINE;
+                if long {
                     return FoundLine::Long((passed + 1) as u64);
                 }
                 if !is_skipped(what, line) {
@@ -207,7 +208,8 @@ pub fn check_text(s: &[u8], lent: bool, sizes: bool) -> Check
     if !sizes {
         return checks::refused(Fault::Sizes, 0);
     }
-    if s.len() > LONGEST_TEXT {
+    let long = s.len() > LONGEST_TEXT;
+    if long {
         return checks::refused(Fault::TextLength, 0);
     }
     Check::Passed

@@ -24,7 +24,8 @@ fn read_numeral(w: &[u8]) -> Natural
     if w.len() < 1 {
         return Natural::Bad;
     }
-    if w.len() > 9 {
+    let long = w.len() > 9;
+    if long {
         return Natural::Bad;
     }
     let mut n: u32 = 0;

@@ -16,7 +16,8 @@ pub fn lowest_unequal(index: &[u32], own: &[u32], count: usize) -> Lowest
 {
     let mut k = 0;
     while k < count {
-        if index[k] == own[k] {
+        let same = index[k] == own[k];
+        if same {
             k += 1;
         } else {
             return Lowest::At(k);

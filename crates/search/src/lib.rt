@@ -108,7 +108,8 @@ fn find_end(
         count += 1;
         f = scan::settled(f, v, distance[v as usize]);
     };
-    if f.goal == FAR {
+    let none = f.goal == FAR;
+    if none {
         return t;
     }
     dual_step::move_prices(price, s.rows, order, &distance, count, f.goal);

@@ -53,7 +53,8 @@ fn above_zero(n: Natural) -> Natural
 {
     match n {
         Natural::Is(value) => {
-            if value > 0 {
+            let some = value > 0;
+            if some {
                 Natural::Is(value)
             } else {
                 Natural::Bad

@@ -111,7 +111,8 @@ fn edge_on(text: &[u8], start: usize, end: usize, s: Shape, cells: &[u16], chose
         let Lowest::At(e) = cells::find_edge(cells, r, c) else {
             return Choice::Refused(Fault::Disagreement);
         };
-        if chosen[e] == 0 {
+        let free = chosen[e] == 0;
+        if free {
             Choice::Is(e)
         } else {
             Choice::Refused(Fault::SameEnds)

@@ -101,7 +101,8 @@ fn put_chosen_edge(out: &mut [u8], at: usize, row: u32, column: u32, mark: u8) -
     requires { at + 32 ≤ length out.old }
     ensures { Puts out.old at (unlines (marked_lines row column mark)) out.new result }
 {
-    if mark == 1 {
+    let chosen = mark == 1;
+    if chosen {
         put_pair(out, at, row, column)
     } else {
         at

@@ -10,24 +10,24 @@ use Rattle.digits.proofs.put_signed.Tie as tie
 put-decimal-requires : tie.Need-put_decimal-requires
 put-decimal-requires c κs = simp length-set (omega (arith, c.requires))
 
-same_length : tie.Need-shape_of-out-then-z-lt0
+same_length : tie.Need-shape_of-out-then-below
 same_length c = c.put_decimal.auto.out ∙ simp length-set
 
-returns : tie.Need-returns-then-z-lt0
+returns : tie.Need-returns-then-below
 returns c =
     let m = c in
     let s = m in
     negative_put s.args.out.now s.args.at s.args.z m.magnitude-n.result s.ranges.z s.requires m.magnitude-n.ensures
-    c.if-z-lt0.true
+    c.if-below.true
     c.put_decimal.ensures
 
-returns-2 : tie.Need-returns-else-z-lt0
+returns-2 : tie.Need-returns-else-below
 returns-2 c =
     let m = c in
     let s = m in
     positive_put s.args.out.now s.args.at s.args.z m.magnitude-n.result s.ranges.z s.requires m.magnitude-n.ensures
-    c.if-z-lt0.false
-    c.put_decimal-else-z-lt0.ensures
+    c.if-below.false
+    c.put_decimal-else-below.ensures
 
 pub put_signed_spec : {M : Type 1} → statement M
 put_signed_spec =

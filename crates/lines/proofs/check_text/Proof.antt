@@ -21,21 +21,21 @@ returns-2 c =
     ap check_says c.refused-then-not-sizes.ensures
     ∙ sizes_refused args.lent args.sizes (text_fits args.s.now) if1.false c.if-not-sizes.true
 
-returns-3 : tie.Need-returns-then-s-gt-LONGEST_TEXT
+returns-3 : tie.Need-returns-then-long
 returns-3 c =
     let if2 = c.if-not-sizes in
     let at-if1 = c in
     let args = at-if1.args in
-    ap check_says c.refused-then-s-gt-LONGEST_TEXT.ensures
+    ap check_says c.refused-then-long.ensures
     ∙ fits_says args.lent args.sizes (text_fits args.s.now) false at-if1.if-not-lent.false if2.false
-    (lt-leb _ _ c.if-s-gt-LONGEST_TEXT.true)
+    (lt-leb _ _ c.if-long.true)
 
 returns-4 : tie.Need-returns
 returns-4 c =
     let if1 = c.if-not-lent in
     let args = c.args in
     fits_says args.lent args.sizes (text_fits args.s.now) true if1.false c.if-not-sizes.false
-    (le-leb _ _ c.if-s-gt-LONGEST_TEXT.false)
+    (le-leb _ _ c.if-long.false)
 
 pub check_text_spec : {M : Type 1} → statement M
 check_text_spec =

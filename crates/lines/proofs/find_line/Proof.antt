@@ -61,12 +61,12 @@ part-line-end c =
     let args = at-loop.args in
     (lined args.s.now at-loop.loop-start.c _ at-next-line.next_line.ensures _ _ _ c.in-Part.is).inside
 
-add-t17 : tie.Need-overflow_add-result-then-line-gt-LONGEST_LINE invariant-loop decreases-loop
+add-t17 : tie.Need-overflow_add-result-then-long invariant-loop decreases-loop
 add-t17 c =
     let inv = c.loop-start.invariant in
     omega (arith, inv.behind, inv.reach)
 
-returns-2 : tie.Need-returns-then-line-gt-LONGEST_LINE invariant-loop decreases-loop
+returns-2 : tie.Need-returns-then-long invariant-loop decreases-loop
 returns-2 c =
     let at-start = c in
     let at-next-line = at-start in
@@ -74,13 +74,13 @@ returns-2 c =
     let args = at-loop.args in
     record {
       says = search_long (skips args.what) args.s.now _ _ at-loop.loop-start.invariant _ _ _
-          (lined args.s.now at-loop.loop-start.c _ at-next-line.next_line.ensures _ _ _ at-start.in-Part.is) c.if-line-gt-LONGEST_LINE.true;
+          (lined args.s.now at-loop.loop-start.c _ at-next-line.next_line.ensures _ _ _ at-start.in-Part.is) c.if-long.true;
       inside = tt;
     }
 
 returns-3 : tie.Need-returns-then-not-is_skipped invariant-loop decreases-loop
 returns-3 c =
-    let if1 = c.if-line-gt-LONGEST_LINE in
+    let if1 = c.if-long in
     let at-start = c in
     let at-next-line = at-start in
     let at-loop = at-next-line in
@@ -104,7 +104,7 @@ loop-less c =
 
 loop-again : tie.Need-loop-start-preserved invariant-loop decreases-loop
 loop-again c =
-    let if1 = c.if-line-gt-LONGEST_LINE in
+    let if1 = c.if-long in
     let at-start = c in
     let at-next-line = at-start in
     let at-loop = at-next-line in

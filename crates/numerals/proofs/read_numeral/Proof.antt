@@ -9,19 +9,19 @@ use Rattle.numerals.proofs.read_numeral.Statement.{statement}
 use Rattle.numerals.proofs.read_numeral.Tie as tie
 
 abbrev invariant-loop : tie.invariant-loop-i
-invariant-loop w n₀ i₀ n i = Reading w n i
+invariant-loop w long n₀ i₀ n i = Reading w n i
 
 abbrev decreases-loop : tie.decreases-loop-i
-decreases-loop w n₀ i₀ n i = length w - i
+decreases-loop w long n₀ i₀ n i = length w - i
 
 returns : tie.Need-returns-then-w-lt1 invariant-loop decreases-loop
 returns c = sym (numeral-short _ c.if-w-lt1.true)
 
-returns-2 : tie.Need-returns-then-w-gt9 invariant-loop decreases-loop
-returns-2 c = sym (numeral-long _ c.if-w-gt9.true)
+returns-2 : tie.Need-returns-then-long invariant-loop decreases-loop
+returns-2 c = sym (numeral-long _ c.if-long.true)
 
 loop-holds : tie.Need-loop-i-init invariant-loop decreases-loop
-loop-holds c = reading_starts _ c.if-w-lt1.false c.if-w-gt9.false
+loop-holds c = reading_starts _ c.if-w-lt1.false c.if-long.false
 
 returns-3 : tie.Need-returns-then-d-lt48 invariant-loop decreases-loop
 returns-3 c =

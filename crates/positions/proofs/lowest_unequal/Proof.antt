@@ -22,15 +22,15 @@ loop-again c =
     let at-loop = c in
     let a = at-loop.args in
     let k = at-loop.loop-k.k in
-    let same = eq-eqb (get_or a.index.now k 0) (get_or a.own.now k 0) c.if-index-k.true in
+    let same = eq-eqb (get_or a.index.now k 0) (get_or a.own.now k 0) c.if-same.true in
     kept_more at-loop.loop-k.invariant c.loop-k-test.true same
 
-returns : tie.Need-returns-else-index-k invariant-loop decreases-loop
+returns : tie.Need-returns-else-same invariant-loop decreases-loop
 returns c =
     let at-loop = c in
     let a = at-loop.args in
     let k = at-loop.loop-k.k in
-    let other = ne_eqb (get_or a.index.now k 0) (get_or a.own.now k 0) c.if-index-k.false in
+    let other = ne_eqb (get_or a.index.now k 0) (get_or a.own.now k 0) c.if-same.false in
     record { is = kept_broken at-loop.loop-k.invariant c.loop-k-test.true other }
 
 returns-2 : tie.Need-returns invariant-loop decreases-loop

@@ -417,7 +417,7 @@ search-again c =
     let s = Growth.grown (net start) r at-nearest.nearest-at.ensures at-if2.if-at-f.false at-settle.settle-v.ensures all in
     (Growth.front_as c.settled-f.ensures s, inv.1)
 
-returns : tie.Need-returns-then-f-eq-FAR invariant-loop decreases-loop invariant-search decreases-search
+returns : tie.Need-returns-then-none invariant-loop decreases-loop invariant-search decreases-search
 returns c =
     let at_out = c in
     let start = begun (turn (left at_out.before.before)) in
@@ -425,7 +425,7 @@ returns c =
     let arrays = start.requires.1.1.1 in (
       record {
         found = λ l. absurd (omega (arith, l, out.1));
-        none = λ l. Growth.stuck (net start) (good start) (rooted start).near (exits start) out.0.leaving c.if-f-eq-FAR.true;
+        none = λ l. Growth.stuck (net start) (good start) (rooted start).near (exits start) out.0.leaving c.if-none.true;
       },
       (arrays.0, out.0.order_long),
     )
@@ -436,7 +436,7 @@ move-prices-requires c κs =
     let at_out = at-if3 in
     let start = begun (turn (left at_out.before.before.before.before)) in
     let out = left_at at_out.before.before.before.before in
-    (Growth.movable (net start) (good start) (rooted start).near (exits start) out.0.leaving at-if3.if-f-eq-FAR.false, start.requires.1.1.1.0)
+    (Growth.movable (net start) (good start) (rooted start).near (exits start) out.0.leaving at-if3.if-none.false, start.requires.1.1.1.0)
 
 returns-2 : tie.Need-returns invariant-loop decreases-loop invariant-search decreases-search
 returns-2 c =
@@ -446,7 +446,7 @@ returns-2 c =
     let start = begun (turn (left at_out.before.before.before.before.before.before)) in
     let out = left_at at_out.before.before.before.before.before.before in
     let moved = at-move-prices.move_prices.ensures in
-    let ended = Growth.ended (net start) (good start) (rooted start).near (exits start) out.0.leaving at-if3.if-f-eq-FAR.false moved.0 in (
+    let ended = Growth.ended (net start) (good start) (rooted start).near (exits start) out.0.leaving at-if3.if-none.false moved.0 in (
       record { found = λ l. ended; none = λ l. absurd (omega (arith, l, ended.inside, few (net start))) },
       (moved.1, out.0.order_long),
     )

@@ -5,10 +5,10 @@ use borrow.Author.Rules.{rules}
 use Rattle.spelling.proofs.above_zero.Statement.{statement}
 use Rattle.spelling.proofs.above_zero.Tie as tie
 
-returns : tie.Need-returns-then-value-gt0
+returns : tie.Need-returns-then-some
 returns c = above_says _ _ c.in-Is.is (omega arith)
 
-returns-2 : tie.Need-returns-else-value-gt0
+returns-2 : tie.Need-returns-else-some
 returns-2 c = zero_says _ _ c.in-Is.is (omega arith)
 
 pub above_zero_spec : {M : Type 1} → statement M

@@ -59,7 +59,7 @@ shared-slice-read-if2 c =
       s.requires.1.1,
     )
 
-returns-3 : tie.Need-returns-then-chosen-e-eq0
+returns-3 : tie.Need-returns-then-free
 returns-3 c =
     let at-e = c in
     let at-find-edge = at-e in
@@ -74,11 +74,11 @@ returns-3 c =
     let found = at-find-edge.find_edge.ensures in
     let at = at-e.in-At.is in
     let s = start in (
-      λ t k i. edge_marks t (so_far k i s.args.chosen.now) two is inside found true at (eq-eqb _ _ c.if-chosen-e-eq0.true),
+      λ t k i. edge_marks t (so_far k i s.args.chosen.now) two is inside found true at (eq-eqb _ _ c.if-free.true),
       edge-among s.requires.1.0 (so_far 0 0 s.args.chosen.now) two is inside found at,
     )
 
-returns-4 : tie.Need-returns-else-chosen-e-eq0
+returns-4 : tie.Need-returns-else-free
 returns-4 c =
     let at-e = c in
     let at-find-edge = at-e in
@@ -93,7 +93,7 @@ returns-4 c =
     let found = at-find-edge.find_edge.ensures in
     let at = at-e.in-At.is in
     let marks = start.args.chosen.now in
-    (λ t k i. edge_marks t (so_far k i marks) two is inside found false at (ne_eqb _ _ c.if-chosen-e-eq0.false), tt)
+    (λ t k i. edge_marks t (so_far k i marks) two is inside found false at (ne_eqb _ _ c.if-free.false), tt)
 
 returns-5 : tie.Need-returns-else-ends_in_range
 returns-5 c =

@@ -4,15 +4,15 @@ use Rattle.writer.proofs.Lines.{edge_chosen, edge_unchosen}
 use Rattle.writer.proofs.put_chosen_edge.Statement.{statement}
 use Rattle.writer.proofs.put_chosen_edge.Tie as tie
 
-returns : tie.Need-returns-then-mark-eq1
+returns : tie.Need-returns-then-chosen
 returns c =
     let a = c.args in
-    edge_chosen a.row a.column a.mark c.if-mark-eq1.true c.put_pair.ensures
+    edge_chosen a.row a.column a.mark c.if-chosen.true c.put_pair.ensures
 
-returns-2 : tie.Need-returns-else-mark-eq1
+returns-2 : tie.Need-returns-else-chosen
 returns-2 c =
     let a = c.args in
-    edge_unchosen a.out.now a.at a.row a.column a.mark c.if-mark-eq1.false
+    edge_unchosen a.out.now a.at a.row a.column a.mark c.if-chosen.false
 
 pub put_chosen_edge_spec : {M : Type 1} → statement M
 put_chosen_edge_spec = tie.close (tie.spec

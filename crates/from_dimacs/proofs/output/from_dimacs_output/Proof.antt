@@ -17,7 +17,7 @@ abbrev begun : tie.After-read_assignment → tie.Start
 begun c = c.before.before.before.before.before.before.before.before
 
 long : (c : tie.After-read_assignment) → length (begun c).args.out.now ≡ 32768
-long c = c.if-out-ne-LONGEST_TEXT.false
+long c = c.if-other.false
 
 -- The graph that was read stands in the three arrays.
 stored : (c : tie.In-Graph) →
@@ -30,12 +30,12 @@ stored c =
     graph_stored (whole (begun r.before.before.before.before.before).args.crosses.now) d.ensures.0 c.in-Graph.is d.ensures.1.0 d.ensures.1.1.0 d.ensures.1.1.1.0
     d.auto.row d.auto.column d.auto.weight
 
-returns : tie.Need-returns-then-out-ne-LONGEST_TEXT
+returns : tie.Need-returns-then-other
 returns c =
     let at-clear-bytes = c in
     let at-if1 = at-clear-bytes in
     let args = at-if1.args in
-    nothing_left 32768 (from_dimacs_output args.crosses.now) at-if1.if-out-ne-LONGEST_TEXT.true at-clear-bytes.clear_bytes.ensures
+    nothing_left 32768 (from_dimacs_output args.crosses.now) at-if1.if-other.true at-clear-bytes.clear_bytes.ensures
 
 put-own-requires : tie.Need-put_own-requires
 put-own-requires c κs =
