@@ -1,5 +1,5 @@
--- Whether the numbers of a text have begun, and its lines from there on.
-use mathlib.Core.Path.{◌≡◌, refl, sym, ap, ap₂, ◌∙◌}
+-- The lines of a text, where its numbers have begun before them or not.
+use mathlib.Core.Path.{◌≡◌, refl, ap, ◌∙◌}
 use mathlib.Core.Bool.{Bool, true, false, not, ◌||◌}
 use mathlib.Core.List.{List, [], ◌∷◌, map}
 use Prim.Native.Nat.{ℕ}
@@ -7,17 +7,6 @@ use Rattle.layout.specs.Text.{blank_line, comment_line}
 use Rattle.layout.specs.Rewrite.{line_anew, lines_anew}
 use Rattle.rewriting.proofs.Anew.{lines_none, lines-before, lines-from}
 use Rattle.anew.specs.Anew.{line_from}
-
--- ---- by the answers of the tests
-
-module _ {before : Bool} (left : before ≡ false) (l : List ℕ) where
-  pub at_blank : blank_line l ≡ true → false ≡ (before || not (blank_line l || comment_line l))
-  at_blank h = sym (ap₂ (λ (x y : Bool). x || not (y || comment_line l)) left h)
-
-  pub at_line : blank_line l ≡ false → {r : Bool} → r ≡ comment_line l → not r ≡ (before || not (blank_line l || comment_line l))
-  at_line h e = ap not e ∙ sym (ap₂ (λ (x y : Bool). x || not (y || comment_line l)) left h)
-
--- ---- the lines
 
 -- The lines anew, where the numbers have begun before them or not.
 abbrev pub lines_from : Bool → List (List ℕ) → List (List ℕ)

@@ -16,7 +16,8 @@ use Rattle.rewriting.proofs.Pieces.{woven-none}
 use Rattle.rewriting.proofs.Anew.{line_none, line_length, word_keeps}
 use Rattle.anew.specs.Anew.{byte_at, line_from}
 use Rattle.anew.proofs.Begun.{lines_from, from_none, from_more}
-use Rattle.digits.specs.Puts.{Puts}
+use Rattle.digits.specs.declared.Writer.{Writer}
+use Rattle.digits.specs.Appends.{Appends}
 use Rattle.anew.proofs.Turn.{Piece, first_piece, Turn, turn_starts, turn_ends, room_piece, room_byte, turn_more}
 
 -- ---- a word of a line
@@ -60,21 +61,21 @@ from_shorter true l = line_length l
 from_shorter false l = omega arith
 
 -- The loop has come to the cursor c.
-pub record TextTurn (d s out : List ℕ) (to : ℕ) (begun : Bool) (c : Cursor) : Type 0 where
+pub record TextTurn (w : Writer) (s : List ℕ) (v : Writer) (begun : Bool) (c : Cursor) : Type 0 where
   pub behind : c.line ≤ c.at
-  pub turn : Turn d 0 s (text_anew s) (rest_at s begun c.at) out to c.at
+  pub turn : Turn w s (text_anew s) (rest_at s begun c.at) v c.at
 
-pub text_starts : (d s : List ℕ) → TextTurn d s d 0 false (record { at = 0; line = 0 })
-text_starts d s = record {
+pub text_starts : (w : Writer) (s : List ℕ) → TextTurn w s w false (record { at = 0; line = 0 })
+text_starts w s = record {
   behind = omega arith;
-  turn = subst (λ (r : List ℕ). Turn d 0 s (text_anew s) r d 0 0) (sym (whole_rest s)) (turn_starts d 0 s (text_anew s));
+  turn = subst (λ (r : List ℕ). Turn w s (text_anew s) r w 0) (sym (whole_rest s)) (turn_starts w s (text_anew s));
 }
 
-pub text_ends : {d s out : List ℕ} {to : ℕ} {begun : Bool} {c : Cursor} → TextTurn d s out to begun c → length s ≤ c.at → Puts d 0 (text_anew s) out to
+pub text_ends : {w : Writer} {s : List ℕ} {v : Writer} {begun : Bool} {c : Cursor} → TextTurn w s v begun c → length s ≤ c.at → Appends w (text_anew s) v
 text_ends {s = s} {begun = begun} {c} T le = turn_ends T.turn (no_line_left s begun c.at le)
 
 -- The line from a to e stands at the cursor, and the loop goes on from the cursor after it.
-module _ {d s out : List ℕ} {to : ℕ} {before : Bool} {c : Cursor} (T : TextTurn d s out to before c) (room : length s ≤ length d)
+module _ {w : Writer} {s : List ℕ} {v : Writer} {before : Bool} {c : Cursor} (T : TextTurn w s v before c) (room : w.at + length s ≤ length w.out.now)
     {a e : ℕ} {after : Cursor} (g : Lined s c a e after) where
   abbrev line : List ℕ
   line = take (e - a) (drop a s)
@@ -89,11 +90,8 @@ module _ {d s out : List ℕ} {to : ℕ} {before : Bool} {c : Cursor} (T : TextT
   line_after : c.at + length line + 1 ≡ after.at
   line_after = omega (arith, line-ends, g.next-at)
 
-  all_room : 0 + length s ≤ length d
-  all_room = omega arith
-
-  pub line-room : to + length line ≤ length out
-  line-room = room_piece T.turn all_room line_piece
+  pub line-room : v.at + length line ≤ length v.out.now
+  line-room = room_piece T.turn room line_piece
 
   module _ {begun : Bool} (is : begun ≡ (before || not (blank_line line || comment_line line))) where
     text_rest : rest_at s before c.at ≡ line_from begun line ++ (byte_at s (c.at + length line) ++ rest_at s begun (c.at + length line + 1))
@@ -103,18 +101,15 @@ module _ {d s out : List ℕ} {to : ℕ} {before : Bool} {c : Cursor} (T : TextT
         ∙ ap (λ (ks : List (List ℕ)). woven ks (ending newline (drop c.at s))) (from_more before begun line _ is)
         ∙ line_piece.step (line_from begun line) (lines_from begun (lines (drop (c.at + length line + 1) s)))
 
-    module _ {out₁ : List ℕ} {to₁ : ℕ} (put : Puts out to (line_from begun line) out₁ to₁) where
-      pub end_room : to₁ + length (byte_at s e) ≤ length out₁
-      end_room = let h = room_byte T.turn all_room line_piece put (from_shorter begun line) in rw line-ends at h
+    module _ {u : Writer} (put : Appends v (line_from begun line) u) where
+      pub end_room : u.at + length (byte_at s e) ≤ length u.out.now
+      end_room = let h = room_byte T.turn room line_piece put (from_shorter begun line) in rw line-ends at h
 
-      pub text_more : {out₂ : List ℕ} {to₂ : ℕ} → Puts out₁ to₁ (byte_at s e) out₂ to₂ → TextTurn d s out₂ to₂ begun after
-      text_more {out₂} {to₂} byte = record {
+      pub text_more : {t : Writer} → Appends u (byte_at s e) t → TextTurn w s t begun after
+      text_more {t} byte = record {
         behind = omega (arith, T.behind, g.next-at, g.next-line, g.starts, g.forward);
         turn =
-            subst (λ (i : ℕ). Turn d 0 s (text_anew s) (rest_at s begun i) out₂ to₂ i) line_after
-            (turn_more T.turn all_room line_piece put (from_shorter begun line)
-            (subst (λ (i : ℕ). Puts out₁ to₁ (byte_at s i) out₂ to₂) (sym line-ends) byte) text_rest);
+            subst (λ (i : ℕ). Turn w s (text_anew s) (rest_at s begun i) t i) line_after
+            (turn_more T.turn room line_piece put (from_shorter begun line)
+            (subst (λ (i : ℕ). Appends u (byte_at s i) t) (sym line-ends) byte) text_rest);
       }
-
-  pub text_falls : length s + 1 - after.at < length s + 1 - c.at
-  text_falls = omega (arith, g.next-at, g.starts, g.forward, g.more)

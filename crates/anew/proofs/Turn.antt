@@ -11,8 +11,9 @@ use Rattle.layout.specs.Text.{pieces}
 use Rattle.layout.specs.Rewrite.{ending, woven}
 use Rattle.readback.proofs.Pieces.{pieces-cut, pieces_whole, Free}
 use Rattle.rewriting.proofs.Pieces.{Cutting, nothing, last, more, cutting, pieces_none, ending-none, ending-free, ending-cut, woven-more}
-use Rattle.digits.specs.Puts.{Puts}
-use Rattle.digits.proofs.Over.{puts_none, puts_then, puts_same, puts_long}
+use Rattle.digits.specs.declared.Writer.{Writer}
+use Rattle.digits.specs.Appends.{Appends}
+use Rattle.digits.proofs.Appending.{appends_none, appends_then, appends_same}
 use Rattle.anew.specs.Anew.{byte_at}
 
 -- ---- the first piece of what is left of a text
@@ -74,51 +75,47 @@ module _ (p : ℕ → Bool) (s : List ℕ) (i : ℕ) where
 
 -- ---- how far a loop has come
 
--- Of the text s, which stands for `whole`, what is before the place i is written from `at` on over d, up to the place `to`; the rest stands for `rest`.
-pub record Turn (d : List ℕ) (at : ℕ) (s whole rest out : List ℕ) (to i : ℕ) : Type 0 where
+-- Of the text s, which stands for `whole`, what is before the place i has been written by the writer w, which is now v; the rest stands for `rest`.
+pub record Turn (w : Writer) (s whole rest : List ℕ) (v : Writer) (i : ℕ) : Type 0 where
   pub written : List ℕ
-  pub puts : Puts d at written out to
+  pub appends : Appends w written v
   pub joins : written ++ rest ≡ whole
   pub short : length written + length (drop i s) ≤ length s
-  pub long : length out ≡ length d
 
-pub turn_starts : (d : List ℕ) (at : ℕ) (s whole : List ℕ) → Turn d at s whole whole d at 0
-turn_starts d at s whole = record { written = []; puts = puts_none d at; joins = refl; short = omega arith; long = refl }
+pub turn_starts : (w : Writer) (s whole : List ℕ) → Turn w s whole whole w 0
+turn_starts w s whole = record { written = []; appends = appends_none w; joins = refl; short = omega arith }
 
-module _ {d : List ℕ} {at : ℕ} {s whole rest out : List ℕ} {to i : ℕ} (T : Turn d at s whole rest out to i) (room : at + length s ≤ length d)
-    {p : ℕ → Bool} {w : List ℕ} (P : Piece p s i w) where
-  lengths : length (drop i s) ≡ length w + (length (byte_at s (i + length w)) + length (drop (i + length w + 1) s))
+module _ {w : Writer} {s whole rest : List ℕ} {v : Writer} {i : ℕ} (T : Turn w s whole rest v i) (room : w.at + length s ≤ length w.out.now)
+    {p : ℕ → Bool} {x : List ℕ} (P : Piece p s i x) where
+  lengths : length (drop i s) ≡ length x + (length (byte_at s (i + length x)) + length (drop (i + length x + 1) s))
   lengths =
-      ap length P.split ∙ length-append w (byte_at s (i + length w) ++ drop (i + length w + 1) s)
-      ∙ ap (λ (n : ℕ). length w + n) (length-append (byte_at s (i + length w)) (drop (i + length w + 1) s))
+      ap length P.split ∙ length-append x (byte_at s (i + length x) ++ drop (i + length x + 1) s)
+      ∙ ap (λ (n : ℕ). length x + n) (length-append (byte_at s (i + length x)) (drop (i + length x + 1) s))
 
   -- There is room for the piece.
-  pub room_piece : to + length w ≤ length out
-  room_piece = omega (arith, T.puts.place, T.short, T.long, lengths)
+  pub room_piece : v.at + length x ≤ length v.out.now
+  room_piece = omega (arith, T.appends.puts.place, T.short, T.appends.long, lengths)
 
-  module _ {k out₁ : List ℕ} {to₁ : ℕ} (put : Puts out to k out₁ to₁) (few : length k ≤ length w) where
+  module _ {k : List ℕ} {u : Writer} (put : Appends v k u) (few : length k ≤ length x) where
     -- And for the byte that ends it.
-    pub room_byte : to₁ + length (byte_at s (i + length w)) ≤ length out₁
-    room_byte = omega (arith, T.puts.place, T.short, T.long, lengths, put.place, puts_long put (omega (arith, room_piece)))
+    pub room_byte : u.at + length (byte_at s (i + length x)) ≤ length u.out.now
+    room_byte = omega (arith, T.appends.puts.place, T.short, T.appends.long, lengths, put.puts.place, put.long)
 
-    pub turn_more : {out₂ rest₂ : List ℕ} {to₂ : ℕ} → Puts out₁ to₁ (byte_at s (i + length w)) out₂ to₂ → rest ≡ k ++ (byte_at s (i + length w) ++ rest₂)
-        → Turn d at s whole rest₂ out₂ to₂ (i + length w + 1)
-    turn_more {out₂} {rest₂} {to₂} byte e =
-        let b = byte_at s (i + length w) in
-        let long₁ : length out₁ ≡ length out = puts_long put (omega (arith, room_piece)) in
-        let one : Puts d at (T.written ++ k) out₁ to₁ = puts_then T.puts put (omega (arith, T.short, lengths)) in
-        let two : Puts d at ((T.written ++ k) ++ b) out₂ to₂ =
-        puts_then one byte (omega (arith, T.short, lengths, length-append T.written k)) in
+    pub turn_more : {rest₂ : List ℕ} {t : Writer} → Appends u (byte_at s (i + length x)) t → rest ≡ k ++ (byte_at s (i + length x) ++ rest₂)
+        → Turn w s whole rest₂ t (i + length x + 1)
+    turn_more {rest₂} {t} byte e =
+        let b = byte_at s (i + length x) in
+        let one : Appends w (T.written ++ k) u = appends_then T.appends put (omega (arith, T.short, lengths)) in
+        let two : Appends w ((T.written ++ k) ++ b) t = appends_then one byte (omega (arith, T.short, lengths, length-append T.written k)) in
         record {
           written = (T.written ++ k) ++ b;
-          puts = two;
+          appends = two;
           joins =
               append_assoc (T.written ++ k) b rest₂ ∙ append_assoc T.written k (b ++ rest₂)
               ∙ ap (λ (r : List ℕ). T.written ++ r) (sym e) ∙ T.joins;
           short = omega (arith, T.short, lengths, length-append (T.written ++ k) b, length-append T.written k);
-          long = puts_long byte (omega (arith, room_byte)) ∙ long₁ ∙ T.long;
         }
 
 -- At the end nothing is left.
-pub turn_ends : {d : List ℕ} {at : ℕ} {s whole rest out : List ℕ} {to i : ℕ} → Turn d at s whole rest out to i → rest ≡ [] → Puts d at whole out to
-turn_ends T e = puts_same T.puts (sym (append-nil T.written) ∙ ap (λ (r : List ℕ). T.written ++ r) (sym e) ∙ T.joins)
+pub turn_ends : {w : Writer} {s whole rest : List ℕ} {v : Writer} {i : ℕ} → Turn w s whole rest v i → rest ≡ [] → Appends w whole v
+turn_ends T e = appends_same T.appends (sym (append-nil T.written) ∙ ap (λ (r : List ℕ). T.written ++ r) (sym e) ∙ T.joins)

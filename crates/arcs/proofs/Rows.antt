@@ -1,63 +1,46 @@
 -- The row vertices are listed one after the other: the index gives the edges of each, and the places of each are its own. Then the lists of the column
 -- vertices begin.
-use Prim.Native.Nat.{ℕ, ◌+◌, ◌*◌, ◌-◌, ◌≤◌, ◌<◌}
+use Prim.Native.Nat.{ℕ, ◌+◌, ◌-◌, ◌≤◌, ◌<◌}
 use mathlib.Core.Path.{◌≡◌, refl, sym, ap, ◌∙◌, subst}
 use mathlib.Core.Logic.{◌≢◌}
 use mathlib.Core.Bool.{Bool, true}
 use mathlib.Core.List.{List}
 use native.Mathlib.Omega.{arith}
 use native.Mathlib.Decide.{ℕ_discrete}
-use lib.ListN.{length, get_or, set, length-set}
+use lib.ListN.{length, get_or, set}
 use lib.Seq.{get_or-set_same, get_or-set_other}
 use Rattle.graph.specs.declared.Kind.{Kind}
-use Rattle.graph.specs.Limits.{most_vertices}
 use Rattle.graph.specs.Graph.{Graph, vertices, column_vertex, column_at, first_end, second_end}
 use Rattle.graph.specs.Index.{offset, index_of}
 use Rattle.graph.proofs.Index.{seen, is_end-first, offset-more}
+use Rattle.method.specs.declared.Table.{Table}
+use Rattle.method.specs.declared.KeptEdge.{KeptEdge}
 use Rattle.method.specs.Method.{Solvable}
-use Rattle.method.specs.Lists.{starts, stops, leasts, most_table, edges, heads, values, keeps, Arc, Kept, start_in, Given}
+use Rattle.method.specs.Lists.{starts, stops, leasts, edges, heads, values, keeps, Arc, Kept, start_in, Given}
 use Rattle.method.proofs.Solvable.{few, small, rows_in, root_in, second_to, weight_within}
 use Rattle.method.proofs.Places.{At, start, place_in, some, at, stands, end_first, offset-rows}
 use Rattle.arcs.specs.Arcs.{head_vertex, keeps_in, listed_edge, Readable, ArcEntry, KeptRow, SameArcs, SameBounds, ListsBegun}
 
--- No row vertex is listed yet.
-pub kept_none : {g : Graph} {keep : ℕ → Bool} {start stop edge head raised : ℕ → ℕ} → Kept g keep start stop edge head raised 0
-kept_none = record {
-  starts = λ r b. absurd (omega arith);
-  stops = λ r b. absurd (omega arith);
-  arcs = λ r k b. absurd (omega arith);
-  all = λ e l b. absurd (omega arith);
-}
+pub bounds_again : {a b c : Table} → SameBounds a b → SameBounds b c → SameBounds a c
+bounds_again p q = record { least = q.least ∙ p.least; most = q.most ∙ p.most }
 
 -- Row vertex r has its start and its stop put in the table, and all else there stays.
-pub record RowPlaced (r from last : ℕ) (old new : List ℕ) : Type 0 where
+pub record RowPlaced (r from last : ℕ) (old new : Table) : Type 0 where
   pub begins : starts new r ≡ from
   pub ends : stops new r ≡ last
-  pub other_start : (v : ℕ) → v < most_vertices → v ≢ r → starts new v ≡ starts old v
+  pub other_start : (v : ℕ) → v ≢ r → starts new v ≡ starts old v
   pub other_stop : (v : ℕ) → v ≢ r → stops new v ≡ stops old v
   pub bounds : SameBounds old new
 
-pub row_placed : (old : List ℕ) (r from last : ℕ) → length old ≡ most_table → r < most_vertices →
-    RowPlaced r from last old (set (set old r from) (most_vertices + r) last)
-row_placed old r from last long low = record {
-  begins = get_or-set_other one (most_vertices + r) r last 0 (λ s. omega (arith, s)) ∙ get_or-set_same old r from 0 (omega (arith, long));
-  ends = get_or-set_same one (most_vertices + r) last 0 (simp length-set (omega (arith, long)));
-  other_start = λ v b n. get_or-set_other one (most_vertices + r) v last 0 (λ s. omega (arith, s)) ∙ get_or-set_other old r v from 0 n;
-  other_stop = λ v n. get_or-set_other one (most_vertices + r) (most_vertices + v) last 0 (λ s. n (omega (arith, s)))
-      ∙ get_or-set_other old r (most_vertices + v) from 0 (λ s. omega (arith, s));
-  bounds = record {
-    each = λ i b. get_or-set_other one (most_vertices + r) i last 0 (λ s. omega (arith, s)) ∙ get_or-set_other old r i from 0 (λ s. omega (arith, s));
-  };
+pub row_placed : (old : Table) (r from last : ℕ) → r < length old.start → r < length old.stop →
+    RowPlaced r from last old (record { start = set old.start r from; stop = set old.stop r last; least = old.least; most = old.most })
+row_placed old r from last a b = record {
+  begins = get_or-set_same old.start r from 0 a;
+  ends = get_or-set_same old.stop r last 0 b;
+  other_start = λ v n. get_or-set_other old.start r v from 0 n;
+  other_stop = λ v n. get_or-set_other old.stop r v last 0 n;
+  bounds = record { least = refl; most = refl };
 }
-  where
-    one : List ℕ
-    one = set old r from
-
-pub bounds_again : {a b c : List ℕ} → SameBounds a b → SameBounds b c → SameBounds a c
-bounds_again p q = record { each = λ i l. q.each i l ∙ p.each i l }
-
-pub bounds_same : {a : List ℕ} → SameBounds a a
-bounds_same = record { each = λ i l. refl }
 
 module _ {g : Graph} {index : List ℕ} (net : Solvable g) (is : index ≡ index_of g) {r : ℕ} (l : r < g.rows) where
   -- The index gives where the places of row vertex r start and stop.
@@ -108,7 +91,7 @@ module _ {g : Graph} {index : List ℕ} (net : Solvable g) (is : index ≡ index
   rises = omega (arith, from, to, offset-more g r (r + 1) (omega arith))
 
   -- What is kept at a place of row vertex r is an edge of r.
-  arc_at : {arc : List ℕ} {k : ℕ} → ArcEntry g.rows g.column g.weight (listed_edge index (vertices g)) (get_or index r 0) (get_or index (r + 1) 0) arc k →
+  arc_at : {arc : List KeptEdge} {k : ℕ} → ArcEntry g.rows g.column g.weight (listed_edge index (vertices g)) (get_or index r 0) (get_or index (r + 1) 0) arc k →
       Arc g r (edges arc k) (heads arc k) (values arc k)
   arc_at {arc} {k} n =
       let t = here n.low n.high in
@@ -120,7 +103,7 @@ module _ {g : Graph} {index : List ℕ} (net : Solvable g) (is : index ≡ index
       }
 
   -- One row vertex more.
-  module _ {keep : ℕ → Bool} {table table' arc arc' : List ℕ} {last : ℕ} {keep_row : ℕ → Bool}
+  module _ {keep : ℕ → Bool} {table table' : Table} {arc arc' : List KeptEdge} {last : ℕ} {keep_row : ℕ → Bool}
       (same-keep : (e : ℕ) → e < g.edges → first_end g e ≡ r → keep e ≡ true → keep_row e ≡ true)
       (K : Kept g keep (starts table) (stops table) (edges arc) (heads arc) (values arc) r)
       (R : KeptRow g.rows g.column g.weight keep_row (listed_edge index (vertices g)) (get_or index r 0) (get_or index (r + 1) 0) arc' last)
@@ -137,14 +120,11 @@ module _ {g : Graph} {index : List ℕ} (net : Solvable g) (is : index ≡ index
         let f = R.all (offset g r + seen g r e) (omega (arith, from)) (omega (arith, to, w.0)) (ap keep_row j ∙ same-keep e b i y) in
         (f.0, omega (arith, f.1, from), f.2, f.3 ∙ j)
 
-    row_low : r < most_vertices
-    row_low = omega (arith, l, rows_in net, few net)
-
     pub kept_more : Kept g keep (starts table') (stops table') (edges arc') (heads arc') (values arc') (r + 1)
     kept_more = record {
       starts = λ v b. elim (ℕ_discrete v r) [
         | yes s ↦ ap (starts table') s ∙ p.begins ∙ from ∙ ap (offset g) (sym s)
-        | no s ↦ p.other_start v (omega (arith, row_low)) s ∙ K.starts v (omega (arith, s))
+        | no s ↦ p.other_start v s ∙ K.starts v (omega (arith, s))
       ];
       stops = λ v b. elim (ℕ_discrete v r) [
         | yes s ↦ omega (arith, ap (stops table') s, ap (λ k. offset g (k + 1)) s, p.ends, R.high, to)
@@ -159,7 +139,7 @@ module _ {g : Graph} {index : List ℕ} (net : Solvable g) (is : index ≡ index
             let c : v < r = omega (arith, s) in
             let high' : k < stops table v = omega (arith, high, p.other_stop v s) in
             let before = earlier v k c high' in
-            rw (same.edge k before, same.head k before, same.value k before) (K.arcs v k c low high')
+            subst (λ (a : KeptEdge). Arc g v a.edge a.head a.value) (sym (same.each k before)) (K.arcs v k c low high')
       ];
       all = λ e b c y. elim (ℕ_discrete (first_end g e) r) [
         | yes s ↦
@@ -168,50 +148,34 @@ module _ {g : Graph} {index : List ℕ} (net : Solvable g) (is : index ≡ index
         | no s ↦
             let d : first_end g e < r = omega (arith, s) in
             let f = K.all e b d y in
-            (f.0, f.1, omega (arith, f.2, p.other_stop (first_end g e) s), same.edge f.0 (earlier (first_end g e) f.0 d f.2) ∙ f.3)
+            (f.0, f.1, omega (arith, f.2, p.other_stop (first_end g e) s), ap (λ (a : KeptEdge). a.edge) (same.each f.0 (earlier (first_end g e) f.0 d f.2)) ∙ f.3)
       ];
     }
 
   -- An edge of r is kept by its row vertex's least and its column vertex's.
-  pub keeps_here : {first table : List ℕ} → SameBounds first table → (e : ℕ) → e < g.edges → first_end g e ≡ r → keeps g (leasts first) e ≡ true →
+  pub keeps_here : {first table : Table} → SameBounds first table → (e : ℕ) → e < g.edges → first_end g e ≡ r → keeps g (leasts first) e ≡ true →
       keeps_in g.rows g.column g.weight table (leasts table r) e ≡ true
   keeps_here {first} {table} same e b i y =
-      rw (second_is e, same.each (2 * most_vertices + r) (omega arith), same.each (2 * most_vertices + second_end g e) (omega arith), sym i) y
-
--- After the last row vertex.
-pub kept_end : {g : Graph} {keep : ℕ → Bool} {start stop edge head raised : ℕ → ℕ} {t m : ℕ} → Kept g keep start stop edge head raised t → m ≤ t →
-    Kept g keep start stop edge head raised m
-kept_end K l = record {
-  starts = λ r b. K.starts r (omega arith);
-  stops = λ r b. K.stops r (omega arith);
-  arcs = λ r k b. K.arcs r k (omega arith);
-  all = λ e b c. K.all e b (omega arith);
-}
+      rw (second_is e, same.least, sym i) y
 
 -- ---- the lists of the column vertices
 
-pub begun_none : {g : Graph} {table : List ℕ} {n : ℕ} → n ≤ g.rows → length table ≡ most_table → ListsBegun g table table n
-begun_none l long = record { begins = λ c a b. absurd (omega arith); rows = λ v b. refl; rest = λ i b. refl; long = long }
-
-pub begun_more : {g : Graph} {old new : List ℕ} {c k : ℕ} → ListsBegun g old new c → c < most_vertices → g.rows ≤ c → k ≡ start_in g c →
-    ListsBegun g old (set new c k) (c + 1)
+pub begun_more : {g : Graph} {old new : Table} {c k : ℕ} → ListsBegun g old new c → c < length new.start → g.rows ≤ c → k ≡ start_in g c →
+    ListsBegun g old (record { start = set new.start c k; stop = new.stop; least = new.least; most = new.most }) (c + 1)
 begun_more {g} {old} {new} {c} {k} B low a is = record {
   begins = λ d p q. elim (ℕ_discrete d c) [
-    | yes s ↦ ap (λ i. get_or (set new c k) i 0) s ∙ get_or-set_same new c k 0 (omega (arith, B.long)) ∙ is ∙ ap (start_in g) (sym s)
-    | no s ↦ get_or-set_other new c d k 0 s ∙ B.begins d p (omega (arith, s))
+    | yes s ↦ ap (λ i. get_or (set new.start c k) i 0) s ∙ get_or-set_same new.start c k 0 low ∙ is ∙ ap (start_in g) (sym s)
+    | no s ↦ get_or-set_other new.start c d k 0 s ∙ B.begins d p (omega (arith, s))
   ];
-  rows = λ v b. get_or-set_other new c v k 0 (λ s. omega (arith, s)) ∙ B.rows v b;
-  rest = λ i b. get_or-set_other new c i k 0 (λ s. omega (arith, s)) ∙ B.rest i b;
-  long = simp length-set B.long;
+  rows = λ v b. get_or-set_other new.start c v k 0 (λ s. omega (arith, s)) ∙ B.rows v b;
+  stop = B.stop;
+  bounds = record { least = B.bounds.least; most = B.bounds.most };
 }
-
-pub begun_end : {g : Graph} {old new : List ℕ} {c n : ℕ} → ListsBegun g old new c → n ≤ c → ListsBegun g old new n
-begun_end B l = record { begins = λ c a b. B.begins c a (omega arith); rows = B.rows; rest = B.rest; long = B.long }
 
 -- ---- what the searches are lent
 
 -- The table with the bounds first, with the row vertices' lists then, and with the column vertices' lists last.
-pub given_by : {g : Graph} {first mid last arc : List ℕ} {places : ℕ} → Solvable g →
+pub given_by : {g : Graph} {first mid last : Table} {arc : List KeptEdge} {places : ℕ} → Solvable g →
     Kept g (keeps g (leasts first)) (starts mid) (stops mid) (edges arc) (heads arc) (values arc) g.rows → SameBounds first mid → ListsBegun g mid last (vertices g) →
     g.edges ≤ places → Given g arc last places
 given_by {g} {first} {mid} {last} net K same B room = record {
@@ -229,11 +193,11 @@ given_by {g} {first} {mid} {last} net K same B room = record {
 }
   where
     stop : (r : ℕ) → stops last r ≡ stops mid r
-    stop r = B.rest (most_vertices + r) (omega arith)
+    stop r = ap (λ z. get_or z r 0) B.stop
 
     least : (v : ℕ) → leasts last v ≡ leasts first v
-    least v = B.rest (2 * most_vertices + v) (omega arith) ∙ same.each (2 * most_vertices + v) (omega arith)
+    least v = ap (λ z. get_or z v 0) (B.bounds.least ∙ same.least)
 
 -- Its bounds stay.
-pub bounds_kept : {g : Graph} {first mid last : List ℕ} {n : ℕ} → SameBounds first mid → ListsBegun g mid last n → SameBounds first last
-bounds_kept same B = record { each = λ i l. B.rest i (omega (arith, l)) ∙ same.each i l }
+pub bounds_kept : {g : Graph} {first mid last : Table} {n : ℕ} → SameBounds first mid → ListsBegun g mid last n → SameBounds first last
+bounds_kept same B = bounds_again same B.bounds

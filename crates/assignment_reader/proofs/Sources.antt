@@ -1,31 +1,25 @@
 -- The problem line and the source nodes, by the lines that are found.
+use Rattle.std.specs.Prelude.{Ok, Err, Result}
 use Prim.Native.Nat.{ℕ, ◌+◌}
-use mathlib.Core.Path.{◌≡◌, refl, sym, ap, ◌∙◌, subst}
+use mathlib.Core.Path.{◌≡◌, refl, sym, ap, ◌∙◌}
 use mathlib.Core.Bool.{Bool, true, false, cond}
 use mathlib.Core.List.{List}
-use lib.IntN.{ℤ}
 use lib.ListN.{drop}
 use Rattle.graph.specs.declared.Fault.{Fault}
 use Rattle.graph.specs.declared.Fault.TheVariants.{Sizes, AssignmentLine}
 use Rattle.graph.specs.declared.Refusal.{Refusal}
-use Rattle.graph.specs.Refusal.{Outcome, yields, refuses}
+use Rattle.graph.specs.Refusal.{Outcome, refuses}
 use Rattle.graph.specs.Graph.{Graph, shape_in_range}
 use Rattle.layout.specs.Text.{lines}
 use Rattle.layout.specs.GraphText.{no_edges}
 use Rattle.layout.specs.AssignmentText.{Stated, Progress, start, naming, joining, assignment_shape, judged, entry_on, on_entry, skipped, complete, proceed, read_entries, read_arcs}
 use Rattle.text.specs.declared.Cursor.{Cursor}
-use Rattle.entries.specs.declared.Entry.{Entry}
-use Rattle.entries.specs.declared.Entry.TheVariants as Entry
-use Rattle.entries.specs.Entries.{entry_says}
-use Rattle.lines.specs.declared.FoundLine.{FoundLine}
-use Rattle.lines.specs.declared.FoundLine.TheVariants as FoundLine
+use Rattle.text.specs.declared.Line.{Line}
+use Rattle.lines.specs.declared.Missing.{Missing}
 use Rattle.lines.specs.Found.{next_data, part, Reached, FoundAs}
 use Rattle.lines.specs.Walk.{origin}
-use Rattle.lines.proofs.Entries.{found-line, entries-found}
-use Rattle.assignment_reader.specs.declared.FoundProblem.TheVariants as FoundProblem
-use Rattle.assignment_reader.specs.declared.FoundSources.TheVariants as FoundSources
+use Rattle.lines.proofs.Entries.{entries-found}
 use Rattle.sources.specs.declared.SourceLine.{SourceLine}
-use Rattle.sources.specs.declared.SourceLine.TheVariants as SourceLine
 use Rattle.sources.specs.Sources.{SourceAs}
 use Rattle.assignment_reader.specs.Sources.{remaining, ProblemAs, SourcesAs}
 
@@ -55,94 +49,80 @@ pub record SourceTurn (s : List ℕ) (arcs : ℕ) (first c : Cursor) (rows : ℕ
 pub turn_starts : (s : List ℕ) (arcs : ℕ) {c : Cursor} → Reached s c → SourceTurn s arcs c c 0
 turn_starts s arcs r = record { reached = r; whole = λ P right. refl }
 
-module _ {s : List ℕ} {arcs : ℕ} {first c : Cursor} {rows : ℕ} (T : SourceTurn s arcs first c rows) {r : FoundLine}
-    (F : FoundAs s c (next_data skipped (c.line + 1) (lines (drop c.at s))) r) where
+-- An answer tells the next line that counts.
+abbrev pub Next : List ℕ → Cursor → Result Line Missing → Type 0
+Next s c r = FoundAs s c (next_data skipped (c.line + 1) (lines (drop c.at s))) r
+
+module _ {s : List ℕ} {arcs : ℕ} {first c : Cursor} {rows : ℕ} (T : SourceTurn s arcs first c rows) where
   -- What comes next, from the first cursor on.
   comes : (P : Stated) → P.arcs ≡ arcs → (w : Outcome Graph) → remaining s c (naming P rows) ≡ w → remaining s first (naming P 0) ≡ w
   comes P right w e = sym (T.whole P right) ∙ e
 
-  pub turn_ended : {k : ℕ} → r ≡ FoundLine.Ended k → (P : Stated) → P.arcs ≡ arcs → SourcesAs s first P (FoundSources.Until rows c)
-  turn_ended {k} is P right = record {
+  pub turn_ended : {k : ℕ} → Next s c (Err (Missing.Ended k)) → (P : Stated) → P.arcs ≡ arcs → SourcesAs s first P (Ok (rows, c))
+  turn_ended {k} F P right = record {
     reached = T.reached;
     whole = comes P right _
-        (entries-found F (FoundLine.Ended k) is (naming P rows)
+        (entries-found (Err (Missing.Ended k)) F (naming P rows)
         ∙ judged-same P rows (complete k) (λ g. remaining s c (joining g))
-        (sym (entries-found F (FoundLine.Ended k) is (joining (no_edges (assignment_shape P rows))))));
+        (sym (entries-found (Err (Missing.Ended k)) F (joining (no_edges (assignment_shape P rows))))));
   }
 
-  pub turn_long : {k : ℕ} → r ≡ FoundLine.Long k → {x : Refusal} → x ≡ record { fault = AssignmentLine; place = k } → (P : Stated) → P.arcs ≡ arcs →
-      SourcesAs s first P (FoundSources.Refused x)
-  turn_long {k} is same P right =
-      comes P right _ (entries-found F (FoundLine.Long k) is (naming P rows))
+  pub turn_long : {k : ℕ} → Next s c (Err (Missing.Long k)) → {x : Refusal} → x ≡ record { fault = AssignmentLine; place = k } → (P : Stated) → P.arcs ≡ arcs →
+      SourcesAs s first P (Err x)
+  turn_long {k} F same P right =
+      comes P right _ (entries-found (Err (Missing.Long k)) F (naming P rows))
       ∙ sym (ap (λ (y : Refusal). refuses y.fault y.place) same)
 
-  module _ {a e : ℕ} {d : Cursor} (is : r ≡ FoundLine.At a e d) where
+  module _ {l : Line} (F : Next s c (Ok l)) where
     abbrev after : Progress → Outcome Graph
-    after u = read_entries (d.line + 1) u (lines (drop d.at s))
+    after u = read_entries (l.next.line + 1) u (lines (drop l.next.at s))
 
     -- The line that was found does what o says.
-    found-does : (P : Stated) → P.arcs ≡ arcs → (o : Outcome Progress) → on_entry d.line (naming P rows) (entry_on (part s a e)) ≡ o →
+    found-does : (P : Stated) → P.arcs ≡ arcs → (o : Outcome Progress) → on_entry l.next.line (naming P rows) (entry_on (part s l.start l.end)) ≡ o →
         remaining s first (naming P 0) ≡ proceed o after
     found-does P right o does =
         comes P right _
-        (entries-found F (FoundLine.At a e d) is (naming P rows) ∙ ap (λ (u : Outcome Progress). proceed u after) does)
+        (entries-found (Ok l) F (naming P rows) ∙ ap (λ (u : Outcome Progress). proceed u after) does)
 
-    module _ (l : SourceLine) (S : SourceAs (part s a e) arcs rows l) where
-      pub turn_node : {v : ℕ} → l ≡ SourceLine.Node v → SourceTurn s arcs first d v
-      turn_node {v} it = record {
-        reached = (found-line F is).reached;
-        whole = λ P right. sym (found-does P right (yields (naming P v)) (subst (SourceAs (part s a e) arcs rows) it S d.line P right));
-      }
+    pub turn_node : {v : ℕ} → SourceAs (part s l.start l.end) arcs rows (Ok (SourceLine.Node v)) → SourceTurn s arcs first l.next v
+    turn_node {v} S = record {
+      reached = F.inside.reached;
+      whole = λ P right. sym (found-does P right (Ok (naming P v)) (S l.next.line P right));
+    }
 
-      pub turn_arc : l ≡ SourceLine.Arc → (P : Stated) → P.arcs ≡ arcs → SourcesAs s first P (FoundSources.Until rows c)
-      turn_arc it P right = record {
-        reached = T.reached;
-        whole = found-does P right _ (subst (SourceAs (part s a e) arcs rows) it S d.line P right)
-            ∙ judged-on P rows (λ g. on_entry d.line (joining g) (entry_on (part s a e))) after
-            ∙ judged-same P rows (λ g. proceed (on_entry d.line (joining g) (entry_on (part s a e))) after) (λ g. remaining s c (joining g))
-            (sym (entries-found F (FoundLine.At a e d) is (joining (no_edges (assignment_shape P rows)))));
-      }
+    pub turn_arc : SourceAs (part s l.start l.end) arcs rows (Ok SourceLine.Arc) → (P : Stated) → P.arcs ≡ arcs → SourcesAs s first P (Ok (rows, c))
+    turn_arc S P right = record {
+      reached = T.reached;
+      whole = found-does P right _ (S l.next.line P right)
+          ∙ judged-on P rows (λ g. on_entry l.next.line (joining g) (entry_on (part s l.start l.end))) after
+          ∙ judged-same P rows (λ g. proceed (on_entry l.next.line (joining g) (entry_on (part s l.start l.end))) after) (λ g. remaining s c (joining g))
+          (sym (entries-found (Ok l) F (joining (no_edges (assignment_shape P rows)))));
+    }
 
-      pub turn_refused : {f : Fault} → l ≡ SourceLine.Refused f → {x : Refusal} → x ≡ record { fault = f; place = d.line } → (P : Stated) → P.arcs ≡ arcs →
-          SourcesAs s first P (FoundSources.Refused x)
-      turn_refused {f} it same P right =
-          found-does P right (refuses f d.line) (subst (SourceAs (part s a e) arcs rows) it S d.line P right)
-          ∙ sym (ap (λ (y : Refusal). refuses y.fault y.place) same)
+    pub turn_refused : {f : Fault} → SourceAs (part s l.start l.end) arcs rows (Err f) → {x : Refusal} → x ≡ record { fault = f; place = l.next.line } →
+        (P : Stated) → P.arcs ≡ arcs → SourcesAs s first P (Err x)
+    turn_refused {f} S same P right =
+        found-does P right (refuses f l.next.line) (S l.next.line P right)
+        ∙ sym (ap (λ (y : Refusal). refuses y.fault y.place) same)
 
 -- ---- the problem line
 
-module _ {s : List ℕ} {r : FoundLine} (F : FoundAs s origin (next_data skipped 1 (lines s)) r) where
-  refused_as : {j k : ℕ} → k ≡ j → {x : Refusal} → x ≡ record { fault = AssignmentLine; place = k } → read_arcs s ≡ refuses AssignmentLine j →
-      ProblemAs s (FoundProblem.Refused x)
-  refused_as line same e =
-      ap (λ (y : Refusal). refuses y.fault y.place) same ∙ ap (λ (n : ℕ). refuses AssignmentLine n) line ∙ sym e
+pub problem_missing : {s : List ℕ} {k : ℕ} → Next s origin (Err (Missing.Ended k)) → {x : Refusal} → x ≡ record { fault = AssignmentLine; place = k } → ProblemAs s (Err x)
+problem_missing {k = k} F same = ap (λ (y : Refusal). refuses y.fault y.place) same ∙ sym (entries-found {c = origin} (Err (Missing.Ended k)) F start)
 
-  pub problem_missing : {k : ℕ} → r ≡ FoundLine.Ended k → {x : Refusal} → x ≡ record { fault = AssignmentLine; place = k } → ProblemAs s (FoundProblem.Refused x)
-  problem_missing {k} is same = refused_as refl same (entries-found {c = origin} F (FoundLine.Ended k) is start)
+pub problem_long : {s : List ℕ} {k : ℕ} → Next s origin (Err (Missing.Long k)) → {x : Refusal} → x ≡ record { fault = AssignmentLine; place = k } → ProblemAs s (Err x)
+problem_long {k = k} F same = ap (λ (y : Refusal). refuses y.fault y.place) same ∙ sym (entries-found {c = origin} (Err (Missing.Long k)) F start)
 
-  pub problem_long : {k : ℕ} → r ≡ FoundLine.Long k → {x : Refusal} → x ≡ record { fault = AssignmentLine; place = k } → ProblemAs s (FoundProblem.Refused x)
-  problem_long {k} is same = refused_as refl same (entries-found {c = origin} F (FoundLine.Long k) is start)
+module _ {s : List ℕ} {l : Line} (F : Next s origin (Ok l)) where
+  first_does : (o : Outcome Progress) → on_entry l.next.line start (entry_on (part s l.start l.end)) ≡ o →
+      read_arcs s ≡ proceed o (λ u. read_entries (l.next.line + 1) u (lines (drop l.next.at s)))
+  first_does o does =
+      entries-found {c = origin} (Ok l) F start ∙ ap (λ (u : Outcome Progress). proceed u (λ v. read_entries (l.next.line + 1) v (lines (drop l.next.at s)))) does
 
-  module _ {a e : ℕ} {d : Cursor} (is : r ≡ FoundLine.At a e d) {n : Entry} (says : entry_says n ≡ entry_on (part s a e)) where
-    first_does : (o : Entry) → n ≡ o →
-        read_arcs s ≡ proceed (on_entry d.line start (entry_says o)) (λ u. read_entries (d.line + 1) u (lines (drop d.at s)))
-    first_does o it =
-        entries-found {c = origin} F (FoundLine.At a e d) is start
-        ∙ ap (λ u. proceed (on_entry d.line start u) (λ u. read_entries (d.line + 1) u (lines (drop d.at s)))) (sym says ∙ ap entry_says it)
+  pub problem_found : (nodes arcs : ℕ) → on_entry l.next.line start (entry_on (part s l.start l.end)) ≡ Ok (naming (record { line = l.next.line; nodes = nodes; arcs = arcs }) 0)
+      → ProblemAs s (Ok (record { line = l.next.line; nodes = nodes; arcs = arcs }, l.next))
+  problem_found nodes arcs does = record { reached = F.inside.reached; whole = sym (first_does _ does) }
 
-    pub problem_found : {nodes arcs k : ℕ} → n ≡ Entry.Problem nodes arcs → k ≡ d.line →
-        ProblemAs s (FoundProblem.At (record { line = k; nodes = nodes; arcs = arcs }) d)
-    problem_found {nodes} {arcs} {k} it same = record {
-      reached = (found-line F is).reached;
-      whole = ap (λ (j : ℕ). remaining s d (naming (record { line = j; nodes = nodes; arcs = arcs }) 0)) same ∙ sym (first_does (Entry.Problem nodes arcs) it);
-    }
-
-    module _ {k : ℕ} (line : k ≡ d.line) {x : Refusal} (same : x ≡ record { fault = AssignmentLine; place = k }) where
-      pub first_source : {v : ℕ} → n ≡ Entry.Source v → ProblemAs s (FoundProblem.Refused x)
-      first_source {v} it = refused_as line same (first_does (Entry.Source v) it)
-
-      pub first_arc : {p q : ℕ} {z : ℤ} → n ≡ Entry.Arc p q z → ProblemAs s (FoundProblem.Refused x)
-      first_arc {p} {q} {z} it = refused_as line same (first_does (Entry.Arc p q z) it)
-
-      pub first_bad : n ≡ Entry.Bad → ProblemAs s (FoundProblem.Refused x)
-      first_bad it = refused_as line same (first_does Entry.Bad it)
+  pub problem_wrong : on_entry l.next.line start (entry_on (part s l.start l.end)) ≡ refuses AssignmentLine l.next.line → {x : Refusal} →
+      x ≡ record { fault = AssignmentLine; place = l.next.line } → ProblemAs s (Err x)
+  problem_wrong does same = ap (λ (y : Refusal). refuses y.fault y.place) same ∙ sym (first_does _ does)

@@ -1,5 +1,5 @@
 -- How far the reader of an assignment text has come: what the problem line and the source nodes leave to be read.
-use Rattle.std.specs.Prelude.{ℕ, ◌+◌, ◌≡◌, List, drop}
+use Rattle.std.specs.Prelude.{ℕ, ◌+◌, ◌≡◌, List, drop, Ok, Err}
 use Rattle.graph.specs.Refusal.{Outcome, refuses}
 use Rattle.graph.specs.Graph.{Graph}
 use Rattle.layout.specs.Text.{lines}
@@ -7,10 +7,6 @@ use Rattle.layout.specs.AssignmentText.{Stated, Progress, naming, joining, judge
 use Rattle.text.specs.declared.Cursor.{Cursor}
 use Rattle.lines.specs.Found.{Reached}
 use Rattle.assignment_reader.specs.declared.Problem.{Problem}
-use Rattle.assignment_reader.specs.declared.FoundProblem.{FoundProblem}
-use Rattle.assignment_reader.specs.declared.FoundProblem.TheVariants as FoundProblem
-use Rattle.assignment_reader.specs.declared.FoundSources.{FoundSources}
-use Rattle.assignment_reader.specs.declared.FoundSources.TheVariants as FoundSources
 
 -- What the code's problem line states.
 abbrev pub stated : Problem → Stated
@@ -25,15 +21,15 @@ pub record ProblemFound (s : List ℕ) (p : Problem) (d : Cursor) : Type 0 where
   pub reached : Reached s d
   pub whole : remaining s d (naming (stated p) 0) ≡ read_arcs s
 
-abbrev pub ProblemAs : List ℕ → FoundProblem → Type 0
-ProblemAs s (FoundProblem.At p d) = ProblemFound s p d
-ProblemAs s (FoundProblem.Refused x) = refuses x.fault x.place ≡ read_arcs s
+abbrev pub ProblemAs : List ℕ → Outcome (Problem × Cursor) → Type 0
+ProblemAs s (Ok (p, d)) = ProblemFound s p d
+ProblemAs s (Err x) = refuses x.fault x.place ≡ read_arcs s
 
 -- The source nodes are known: from the cursor c on, the sizes are judged, and the arcs from the cursor d on remain.
 pub record SourcesFound (s : List ℕ) (c : Cursor) (P : Stated) (rows : ℕ) (d : Cursor) : Type 0 where
   pub reached : Reached s d
   pub whole : remaining s c (naming P 0) ≡ judged P rows (λ g. remaining s d (joining g))
 
-abbrev pub SourcesAs : List ℕ → Cursor → Stated → FoundSources → Type 0
-SourcesAs s c P (FoundSources.Until rows d) = SourcesFound s c P rows d
-SourcesAs s c P (FoundSources.Refused x) = remaining s c (naming P 0) ≡ refuses x.fault x.place
+abbrev pub SourcesAs : List ℕ → Cursor → Stated → Outcome (ℕ × Cursor) → Type 0
+SourcesAs s c P (Ok (rows, d)) = SourcesFound s c P rows d
+SourcesAs s c P (Err x) = remaining s c (naming P 0) ≡ refuses x.fault x.place

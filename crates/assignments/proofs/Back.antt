@@ -1,8 +1,8 @@
 -- What a graph is written as, the assignment reader reads back: the same graph, its edges in the same order.
+use Rattle.std.specs.Prelude.{Some, Ok}
 use mathlib.Core.Path.{◌≡◌, refl, sym, ap, ap₂, ◌∙◌}
 use mathlib.Core.Bool.{Bool, true, false, not, cond}
 use mathlib.Core.List.{List, [], ◌∷◌, ◌++◌}
-use mathlib.Core.Option.{some}
 use Prim.Native.Nat.{ℕ, zero, suc, ◌+◌, ◌-◌, ◌^◌, ◌<◌}
 use native.Mathlib.Omega.{arith}
 use native.Mathlib.Numerals.{add-one}
@@ -17,7 +17,7 @@ use Rattle.graph.specs.declared.Kind.TheVariants.{Bipartite}
 use Rattle.graph.specs.declared.Shape.{Shape}
 use Rattle.graph.specs.declared.Fault.TheVariants.{Sizes, AssignmentLine, Sources}
 use Rattle.graph.specs.Limits.{most_vertices, most_edges, greatest_weight}
-use Rattle.graph.specs.Refusal.{Outcome, yields, refuses}
+use Rattle.graph.specs.Refusal.{Outcome, refuses}
 use Rattle.graph.specs.Graph.{Graph, shape_of, row_at, column_at, weight_at, shape_in_range}
 use Rattle.graph.specs.Passed.{Passed}
 use Rattle.graph.proofs.Passing.{pass}
@@ -63,29 +63,29 @@ module _ (x : ℕ) (v : List ℕ) (ws : List (List ℕ)) (letter : blank x ≡ f
   unfolding entry_on
   lettered_entry = rw (lettered_begins, lettered_words)
 
-  line_does : (e : Entry) → line_fits lettered ≡ true → entry_words ((x ∷ []) ∷ v ∷ ws) ≡ some e → (k : ℕ) (s t : Progress) → on_entry k s (some e) ≡ yields t
-      → on_assignment_line k s lettered ≡ yields t
+  line_does : (e : Entry) → line_fits lettered ≡ true → entry_words ((x ∷ []) ∷ v ∷ ws) ≡ Some e → (k : ℕ) (s t : Progress) → on_entry k s (Some e) ≡ Ok t
+      → on_assignment_line k s lettered ≡ Ok t
   unfolding on_assignment_line
   line_does e fits is k s t h = rw (fits, lettered_full, lettered_plain, lettered_entry, is) h
 
 -- One such line leads from state to state.
-reaches_entry : (s t : Progress) (l : List ℕ) → ((k : ℕ) → on_assignment_line k s l ≡ yields t) → Reaches read_entries s (l ∷ []) t
+reaches_entry : (s t : Progress) (l : List ℕ) → ((k : ℕ) → on_assignment_line k s l ≡ Ok t) → Reaches read_entries s (l ∷ []) t
 unfolding read_entries
 reaches_entry s t l h k rest = ap (λ (o : Outcome Progress). proceed o (λ u. read_entries (k + 1) u rest)) (h k)
 
 -- ---- what the words are read as
 
 problem_entry : (nodes arcs : ℕ) → nodes < 10 ^ 9 → arcs < 10 ^ 9
-    → entry_words (bytes "p" ∷ bytes "asn" ∷ decimal nodes ∷ decimal arcs ∷ []) ≡ some (problem nodes arcs)
+    → entry_words (bytes "p" ∷ bytes "asn" ∷ decimal nodes ∷ decimal arcs ∷ []) ≡ Some (problem nodes arcs)
 unfolding same two_words
 problem_entry nodes arcs h k = rw (number_back nodes h, number_back arcs k)
 
-source_entry : (v : ℕ) → v < 10 ^ 9 → entry_words (bytes "n" ∷ decimal v ∷ []) ≡ some (source v)
+source_entry : (v : ℕ) → v < 10 ^ 9 → entry_words (bytes "n" ∷ decimal v ∷ []) ≡ Some (source v)
 unfolding same one_word
 source_entry v h = rw (number_back v h)
 
 arc_entry : (a b : ℕ) (z : ℤ) → a < 10 ^ 9 → b < 10 ^ 9 → Within greatest_weight z
-    → entry_words (bytes "a" ∷ decimal a ∷ decimal b ∷ signed z ∷ []) ≡ some (arc a b z)
+    → entry_words (bytes "a" ∷ decimal a ∷ decimal b ∷ signed z ∷ []) ≡ Some (arc a b z)
 unfolding same three_words
 arc_entry a b z h k w = rw (number_back a h, number_back b k, signed_back z w)
 
@@ -98,7 +98,7 @@ module _ {g : Graph} (P : Passed g) (kind : g.kind ≡ Bipartite) where
   abbrev stated : Stated
   stated = record { line = 1; nodes = g.rows + g.columns; arcs = g.edges }
 
-  problem_step : on_assignment_line 1 start (problem_line g) ≡ yields (naming stated 0)
+  problem_step : on_assignment_line 1 start (problem_line g) ≡ Ok (naming stated 0)
   problem_step =
       line_does 112 (bytes "asn") (decimal (g.rows + g.columns) ∷ decimal g.edges ∷ []) refl refl (
         lit≤ tt,
@@ -110,13 +110,13 @@ module _ {g : Graph} (P : Passed g) (kind : g.kind ≡ Bipartite) where
       (problem_entry (g.rows + g.columns) g.edges (omega (arith, S.rows_small, S.columns_small)) (omega (arith, S.edges_few)))
       1 start (naming stated 0) refl
 
-  source_step : (n : ℕ) → n < g.rows → (k : ℕ) → on_assignment_line k (naming stated n) (source_line n) ≡ yields (naming stated (suc n))
+  source_step : (n : ℕ) → n < g.rows → (k : ℕ) → on_assignment_line k (naming stated n) (source_line n) ≡ Ok (naming stated (suc n))
   source_step n l k =
       line_does 110 (decimal (n + 1)) [] refl refl (decimal-some (n + 1), decimal-no_blank (n + 1), tt) (source (n + 1))
       (le-leb (length (source_line n)) 1024 (omega (arith, source_line-le P n l))) (source_entry (n + 1) (omega (arith, S.rows_small)))
       k (naming stated n) (naming stated (suc n))
-      (ap (λ (t : Bool). cond t (yields (naming stated (n + 1))) (refuses Sources k)) (eq-eqb (n + 1) (n + 1) refl)
-      ∙ ap (λ (m : ℕ). yields (naming stated m)) (add-one n))
+      (ap (λ (t : Bool). cond t (Ok (naming stated (n + 1))) (refuses Sources k)) (eq-eqb (n + 1) (n + 1) refl)
+      ∙ ap (λ (m : ℕ). Ok (naming stated m)) (add-one n))
 
   sources_read : Reaches read_entries (naming stated 0) (source_lines g.rows) (naming stated g.rows)
   sources_read =
@@ -152,13 +152,13 @@ module _ {g : Graph} (P : Passed g) (kind : g.kind ≡ Bipartite) where
 
   module _ (n : ℕ) (l : n < g.edges) where
     -- Its target less the rows is the column, and its cost negated is the weight.
-    arc_placed : (k : ℕ) → with_arc k (first_edges g n) (row_at g n) (g.rows + column_at g n) (neg_ℤ (weight_at g n)) ≡ yields (arcs_read (suc n))
+    arc_placed : (k : ℕ) → with_arc k (first_edges g n) (row_at g n) (g.rows + column_at g n) (neg_ℤ (weight_at g n)) ≡ Ok (arcs_read (suc n))
     arc_placed k =
         let c : g.rows + column_at g n - g.rows ≡ column_at g n = omega arith in
-        ap₂ (λ (c : ℕ) (w : ℤ). placed k (graph_edge (first_edges g n) (some (row_at g n, c, w)))) c (neg_ℤ-neg_ℤ (weight_at g n))
+        ap₂ (λ (c : ℕ) (w : ℤ). placed k (graph_edge (first_edges g n) (Some (row_at g n, c, w)))) c (neg_ℤ-neg_ℤ (weight_at g n))
         ∙ ap (placed k) (edge_next P n l)
 
-    arc_step : (k : ℕ) → on_assignment_line k (arcs_read n) (arc_line g n) ≡ yields (arcs_read (suc n))
+    arc_step : (k : ℕ) → on_assignment_line k (arcs_read n) (arc_line g n) ≡ Ok (arcs_read (suc n))
     arc_step k =
         let a = row_at g n in
         let b = g.rows + column_at g n in
@@ -182,24 +182,24 @@ module _ {g : Graph} (P : Passed g) (kind : g.kind ≡ Bipartite) where
   at_last k zero = judged-back (complete k)
   at_last k (suc n) = refl
 
-  all_came : (k : ℕ) → read_entries k (arcs_read g.edges) [] ≡ yields g
+  all_came : (k : ℕ) → read_entries k (arcs_read g.edges) [] ≡ Ok g
   unfolding read_entries
   all_came k =
       at_last k g.edges
-      ∙ ap (λ (t : Bool). cond t (refuses AssignmentLine k) (yields (first_edges g g.edges))) (edges-came P)
-      ∙ ap yields (edges-all P)
+      ∙ ap (λ (t : Bool). cond t (refuses AssignmentLine k) (Ok (first_edges g g.edges))) (edges-came P)
+      ∙ ap Ok (edges-all P)
 
   abbrev later_lines : List (List ℕ)
   later_lines = source_lines g.rows ++ arc_lines g g.edges
 
-  later_read : read_entries 2 (naming stated 0) later_lines ≡ yields g
+  later_read : read_entries 2 (naming stated 0) later_lines ≡ Ok g
   later_read =
       reaches_all read_entries (naming stated 0) (arcs_read g.edges) later_lines
       (reaches_append read_entries (naming stated 0) (naming stated g.rows) (arcs_read g.edges) (source_lines g.rows) (arc_lines g g.edges)
       sources_read arcs-read) 2
       ∙ all_came (2 + length later_lines)
 
-  all_read : read_entries 1 start (problem_line g ∷ later_lines) ≡ yields g
+  all_read : read_entries 1 start (problem_line g ∷ later_lines) ≡ Ok g
   unfolding read_entries
   all_read = ap (λ (o : Outcome Progress). proceed o (λ t. read_entries 2 t later_lines)) problem_step ∙ later_read
 
@@ -224,7 +224,7 @@ module _ {g : Graph} (P : Passed g) (kind : g.kind ≡ Bipartite) where
           )
 
   -- The text of a bipartite graph that has passed reads as that graph.
-  pub assignment_back : read_assignment most_edges most_edges most_edges most_vertices (assignment_text g) ≡ yields g
+  pub assignment_back : read_assignment most_edges most_edges most_edges most_vertices (assignment_text g) ≡ Ok g
   unfolding read_assignment
   assignment_back =
       pass (assignment_reader_tests most_edges most_edges most_edges most_vertices (assignment_text g))
@@ -236,8 +236,8 @@ module _ {g : Graph} (P : Passed g) (kind : g.kind ≡ Bipartite) where
 -- ---- what the call yields
 
 -- A graph that is written reads back as itself, and its bounds are those that reading gives.
-pub written_back : (g : Graph) (bound : List ℤ) (n : ℕ) (text : List ℕ) → write_assignment g bound n ≡ yields text
-    → (read_assignment most_edges most_edges most_edges most_vertices text ≡ yields g) × (bound ≡ unit_bounds g)
+pub written_back : (g : Graph) (bound : List ℤ) (n : ℕ) (text : List ℕ) → write_assignment g bound n ≡ Ok text
+    → (read_assignment most_edges most_edges most_edges most_vertices text ≡ Ok g) × (bound ≡ unit_bounds g)
 written_back g bound n text e =
     let W = yields_written g bound n text e in
     (ap (read_assignment most_edges most_edges most_edges most_vertices) (sym W.is) ∙ assignment_back W.passed W.kind, written-unit W)

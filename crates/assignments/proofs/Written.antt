@@ -1,4 +1,5 @@
 -- The call yields an assignment text just for a bipartite graph that has passed, with each bound 1, and it is the text of the graph.
+use Rattle.std.specs.Prelude.{Ok}
 use mathlib.Core.Path.{◌≡◌, refl, sym, ap, ◌∙◌}
 use mathlib.Core.Bool.{true, ◌&&◌}
 use mathlib.Core.List.{List, [], ◌∷◌}
@@ -13,7 +14,7 @@ use Rattle.integers.proofs.Order.{between-true, ≤ℤ-antisym}
 use Rattle.graph.specs.declared.Kind.{Kind}
 use Rattle.graph.specs.declared.Kind.TheVariants.{Bipartite, General}
 use Rattle.graph.specs.Limits.{longest_text}
-use Rattle.graph.specs.Refusal.{Outcome, yields}
+use Rattle.graph.specs.Refusal.{Outcome}
 use Rattle.graph.specs.Graph.{Graph, vertices, bound_at, bound_in_range, bound_is_one}
 use Rattle.graph.specs.Tests.{graph_lengths, graph_tests, bound_test, kind_test, one_test, is_bipartite}
 use Rattle.graph.specs.Passed.{Passed}
@@ -57,14 +58,14 @@ pub record WritesText (g : Graph) (bound : List ℤ) (n : ℕ) (text : List ℕ)
   pub lent : n ≡ longest_text
   pub is : assignment_text g ≡ text
 
-pub yields_written : (g : Graph) (bound : List ℤ) (n : ℕ) (text : List ℕ) → write_assignment g bound n ≡ yields text → WritesText g bound n text
+pub yields_written : (g : Graph) (bound : List ℤ) (n : ℕ) (text : List ℕ) → write_assignment g bound n ≡ Ok text → WritesText g bound n text
 unfolding write_assignment
 yields_written g bound n text e =
-    let p = passes (assignment_tests g bound n) (yields (assignment_text g)) text e in
+    let p = passes (assignment_tests g bound n) (Ok (assignment_text g)) text e in
     let q = passes_split (graph_tests g) (bound_test g bound ∷ kind_test g ∷ one_test g bound ∷ []) p.0.1 in
     let lengths = both (graph_lengths g) (eqb (length bound) (vertices g) && eqb n longest_text) (p.0.0 0 (omega arith)) in
     let others = both (eqb (length bound) (vertices g)) (eqb n longest_text) lengths.1 in
-    let same : ◌≡◌ {A = Outcome (List ℕ)} (yields (assignment_text g)) (yields text) = p.1 in
+    let same : ◌≡◌ {A = Outcome (List ℕ)} (Ok (assignment_text g)) (Ok text) = p.1 in
     record {
       passed = graph_passed g lengths.0 q.0;
       kind = two-sided g.kind (q.1.1.0 0 (omega arith));
@@ -79,7 +80,7 @@ written-unit {g} {bound} W = all_one g bound W.bound_long W.ones
 
 -- ---- and back: such a graph is written
 
-pub unit_writes : {g : Graph} → Passed g → g.kind ≡ Bipartite → write_assignment g (unit_bounds g) longest_text ≡ yields (assignment_text g)
+pub unit_writes : {g : Graph} → Passed g → g.kind ≡ Bipartite → write_assignment g (unit_bounds g) longest_text ≡ Ok (assignment_text g)
 unfolding write_assignment
 unit_writes {g} P kind =
     pass (assignment_tests g (unit_bounds g) longest_text) (
@@ -87,4 +88,4 @@ unit_writes {g} P kind =
       passes_join (graph_tests g) (bound_test g (unit_bounds g) ∷ kind_test g ∷ one_test g (unit_bounds g) ∷ []) (passed_tests P)
           ((unit_range g).0, ((λ k l. ap is_bipartite kind), unit_ones g)),
     )
-    (yields (assignment_text g))
+    (Ok (assignment_text g))

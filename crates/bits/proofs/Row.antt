@@ -30,11 +30,6 @@ bit-later ws from i t l =
     let e : 64 * from + (64 * i + t) ≡ 64 * (from + i) + t = omega arith in
     ap (bit ws) e ∙ bit_word ws (from + i) t l
 
-pub bit-from : (ws : List ℕ) (from i : ℕ) → bit ws (64 * from + i) ≡ bit_of (get_or ws (from + i / 64) 0) (i % 64)
-bit-from ws from i =
-    let e : i ≡ 64 * (i / 64) + i % 64 = omega arith in
-    ap (λ k. bit ws (64 * from + k)) e ∙ bit-later ws from (i / 64) (i % 64) (omega arith)
-
 -- ---- counting
 
 test_moved : (a t k : ℕ) → ltb t (k - a) ≡ ltb (a + t) k

@@ -45,8 +45,7 @@ fn left(k: u64, i: usize) -> u64
     requires { i ≤ 16 }
     ensures { result ≡ k - 64 * i }
 {
-    let passed = (WORD_BITS * i) as u64;
-    if k < passed { 0 } else { k - passed }
+    k.saturating_sub((WORD_BITS * i) as u64)
 }
 
 // How many of the first k bits of the count words at from are set, counted word by word; what is above them is masked.
@@ -55,10 +54,8 @@ pub fn ones(words: &[u64], from: usize, count: usize, k: u64) -> u32
     ensures { (result ≡ sum k (λ j. one (bit words.now (64 * from + j)))) × (result ≤ k) }
 {
     let mut total = 0;
-    let mut i = 0;
-    while i < count {
-        total += u64::count_ones(low(words[from + i], left(k, i)));
-        i += 1;
+    for i in 0..count {
+        total += low(words[from + i], left(k, i)).count_ones();
     }
     total
 }
@@ -68,12 +65,10 @@ pub fn any_from(words: &[u64], from: usize, count: usize, k: u64) -> bool
     requires { (from + count ≤ length words.now) × (count ≤ 16) }
     ensures { result ≡ some? (64 * count - k) (λ j. bit words.now (64 * from + (k + j))) }
 {
-    let mut i = 0;
-    while i < count {
+    for i in 0..count {
         if above(words[from + i], left(k, i)) {
             return true;
         }
-        i += 1;
     }
     false
 }

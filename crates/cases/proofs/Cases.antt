@@ -1,15 +1,15 @@
 -- The twelve marked cases: the table's test is computed, and one law turns it into the statement of each claim.
+use Rattle.std.specs.Prelude.{Option, None, Some, Ok, Err}
 use Prim.Native.Nat.{ℕ}
 use mathlib.Core.Path.{◌≡◌, refl, ap, ap₂, ◌∙◌}
 use mathlib.Core.Bool.{Bool, true}
 use mathlib.Core.List.{List, [], ◌∷◌, ◌++◌}
-use mathlib.Core.Option.{Option, none, some}
 use lib.Dec.{eqb}
 use borrow.Author.Tests.{eqb-true}
 use lib.IntN.{ℤ}
 use lib.Signed.{le_z}
 use Rattle.integers.proofs.Order.{le_z_true, ≤ℤ-antisym}
-use Rattle.graph.specs.Refusal.{Outcome, yields, refuses, number_of, told, refused_with}
+use Rattle.graph.specs.Refusal.{Outcome, refuses, number_of, told, refused_with}
 use Rattle.graph.specs.Graph.{Graph}
 use Rattle.graph.specs.Subgraph.{weight_of}
 use Rattle.graph.proofs.Passing.{zero_one}
@@ -39,18 +39,18 @@ list_eq test law (x ∷ xs) [] e = zero_one (cc)
 list_eq test law (x ∷ xs) (y ∷ ys) e =
     let s = both (test x y) (same_list test xs ys) e in ap₂ (λ u us. u ∷ us) (law x y s.0) (list_eq test law xs ys s.1)
 
-best_eq : (o : Option ℤ) (w : ℤ) → same_best o w ≡ true → o ≡ some w
-best_eq none w e = zero_one (cc)
-best_eq (some v) w e = ap some (same-eq v w e)
+best_eq : (o : Option ℤ) (w : ℤ) → same_best o w ≡ true → o ≡ Some w
+best_eq None w e = zero_one (cc)
+best_eq (Some v) w e = ap Some (same-eq v w e)
 
-yields_eq : {A : Type 0} (test : A → Bool) (o : Outcome A) → yields_such test o ≡ true → (a : A) × (o ≡ yields a) × (test a ≡ true)
-yields_eq test (yields a) e = (a, refl, e)
-yields_eq test (refuses f p) e = zero_one (cc)
+yields_eq : {A : Type 0} (test : A → Bool) (o : Outcome A) → yields_such test o ≡ true → (a : A) × (o ≡ Ok a) × (test a ≡ true)
+yields_eq test (Ok a) e = (a, refl, e)
+yields_eq test (Err refusal) e = zero_one (cc)
 
 refused_eq : {A : Type 0} (o : Outcome A) (n p : ℕ) → is_refused o n p ≡ true → told o ≡ refused_with n p
-refused_eq (yields a) n p e = zero_one (cc)
-refused_eq (refuses f q) n p e =
-    let s = both (eqb (number_of f) n) (eqb q p) e in ap₂ refused_with (eqb-true (number_of f) n s.0) (eqb-true q p s.1)
+refused_eq (Ok a) n p e = zero_one (cc)
+refused_eq (Err refusal) n p e =
+    let s = both (eqb (number_of refusal.fault) n) (eqb refusal.place p) e in ap₂ refused_with (eqb-true (number_of refusal.fault) n s.0) (eqb-true refusal.place p s.1)
 
 -- A claim whose test is true holds.
 pub claim : (c : Case) (k : Claim) → holds c k ≡ true → States c k
@@ -74,7 +74,7 @@ claim c (sheet_taken text) e =
 claim c (sheet_refused text n p) e = refused_eq (read_sheet text) n p e
 claim c (limits_taken text) e =
     let y = yields_eq (λ zs. same_list sameℤ zs c.bound) (read_limits c text) e in
-    y.1 ∙ ap yields (list_eq sameℤ same-eq y.0 c.bound y.2)
+    y.1 ∙ ap Ok (list_eq sameℤ same-eq y.0 c.bound y.2)
 claim c (limits_refused text n p) e = refused_eq (read_limits c text) n p e
 
 -- A test that is true of every member is a statement of every member.

@@ -1,12 +1,12 @@
 -- The test of the table that is computed.
+use Rattle.std.specs.Prelude.{Option, None, Some, Ok, Err}
 use Prim.Native.Nat.{ℕ}
 use mathlib.Core.Bool.{Bool, true, false, ◌&&◌}
 use mathlib.Core.List.{List, [], ◌∷◌, ◌++◌}
-use mathlib.Core.Option.{Option, none, some}
 use lib.Dec.{eqb}
 use lib.IntN.{ℤ}
 use lib.Signed.{le_z}
-use Rattle.graph.specs.Refusal.{Outcome, yields, refuses, number_of}
+use Rattle.graph.specs.Refusal.{Outcome, refuses, number_of}
 use Rattle.graph.specs.Graph.{Graph}
 use Rattle.graph.specs.Subgraph.{weight_of}
 use Rattle.layout.specs.Text.{bytes}
@@ -28,17 +28,17 @@ same_list test (x ∷ xs) [] = false
 same_list test (x ∷ xs) (y ∷ ys) = test x y && same_list test xs ys
 
 abbrev pub same_best : Option ℤ → ℤ → Bool
-same_best none w = false
-same_best (some v) w = sameℤ v w
+same_best None w = false
+same_best (Some v) w = sameℤ v w
 
 -- What is yielded passes a test, or what is refused has this number and place.
 abbrev pub yields_such : {A : Type 0} → (A → Bool) → Outcome A → Bool
-yields_such test (yields a) = test a
-yields_such test (refuses f p) = false
+yields_such test (Ok a) = test a
+yields_such test (Err refusal) = false
 
 abbrev pub is_refused : {A : Type 0} → Outcome A → ℕ → ℕ → Bool
-is_refused (yields a) n p = false
-is_refused (refuses f q) n p = eqb (number_of f) n && eqb q p
+is_refused (Ok a) n p = false
+is_refused (Err refusal) n p = eqb (number_of refusal.fault) n && eqb refusal.place p
 
 abbrev pub holds : Case → Claim → Bool
 holds c (largest w) = same_best (best c.graph c.bound) w

@@ -1,11 +1,11 @@
 -- Trying every subgraph finds the largest weight of a feasible one.
+use Rattle.std.specs.Prelude.{Option, None, Some}
 use Prim.Native.Nat.{ℕ, zero, suc, ◌≤◌, ◌<◌}
 use mathlib.Core.Path.{◌≡◌, refl, sym, ap, ◌∙◌, subst}
 use mathlib.Core.Logic.{◌⊎◌, inl, inr}
 use mathlib.Core.Bool.{Bool, true, false, cond, ◌&&◌}
 use mathlib.Core.List.Memᴰ
 use mathlib.Core.List.{List, [], ◌∷◌, ◌++◌, map, Memᴰ}
-use mathlib.Core.Option.{Option, none, some}
 use native.Mathlib.Omega.{arith}
 use lib.Dec.{leb, eqb}
 use borrow.Author.Tests.{leb-true, le-leb, eqb-true, eq-eqb}
@@ -30,13 +30,13 @@ is_feasible g bound x =
     && every (vertices g) (λ v. le_z (pos (degree g x v)) (bound_at bound v))
 
 abbrev pub larger : ℤ → Option ℤ → ℤ
-larger w none = w
-larger w (some v) = cond (le_z w v) v w
+larger w None = w
+larger w (Some v) = cond (le_z w v) v w
 
 -- The largest weight of the feasible ones among xs, if there is one.
 abbrev pub best_of : Graph → List ℤ → List (List ℕ) → Option ℤ
-best_of g bound [] = none
-best_of g bound (x ∷ xs) = cond (is_feasible g bound x) (some (larger (weight_of g x) (best_of g bound xs))) (best_of g bound xs)
+best_of g bound [] = None
+best_of g bound (x ∷ xs) = cond (is_feasible g bound x) (Some (larger (weight_of g x) (best_of g bound xs))) (best_of g bound xs)
 
 abbrev pub best : Graph → List ℤ → Option ℤ
 best g bound = best_of g bound (subgraphs g.edges)
@@ -95,21 +95,21 @@ record Found (g : Graph) (bound : List ℤ) (xs : List (List ℕ)) (w : ℤ) : T
   most : (y : List ℕ) → Memᴰ y xs → is_feasible g bound y ≡ true → weight_of g y ≤ℤ w
 
 larger_left : (w : ℤ) (o : Option ℤ) → w ≤ℤ larger w o
-larger_left w none = ≤ℤ_refl w
-larger_left w (some v) = go (le_z w v) refl
+larger_left w None = ≤ℤ_refl w
+larger_left w (Some v) = go (le_z w v) refl
   where
     go : (b : Bool) → le_z w v ≡ b → w ≤ℤ cond b v w
     go true e = le_z_true w v e
     go false e = ≤ℤ_refl w
 
-larger_right : (w v : ℤ) → v ≤ℤ larger w (some v)
+larger_right : (w v : ℤ) → v ≤ℤ larger w (Some v)
 larger_right w v = go (le_z w v) refl
   where
     go : (b : Bool) → le_z w v ≡ b → v ≤ℤ cond b v w
     go true e = ≤ℤ_refl v
     go false e = let l = le_z_false w v e in omega order
 
-larger_one : (w v : ℤ) → (larger w (some v) ≡ w) ⊎ (larger w (some v) ≡ v)
+larger_one : (w v : ℤ) → (larger w (Some v) ≡ w) ⊎ (larger w (Some v) ≡ v)
 larger_one w v = go (le_z w v)
   where
     go : (b : Bool) → (cond b v w ≡ w) ⊎ (cond b v w ≡ v)
@@ -118,13 +118,13 @@ larger_one w v = go (le_z w v)
 
 module _ (g : Graph) (bound : List ℤ) where
   -- Nothing was found where none of xs is feasible.
-  none_found : (xs : List (List ℕ)) → best_of g bound xs ≡ none → (y : List ℕ) → Memᴰ y xs → is_feasible g bound y ≡ true → ⊥
+  none_found : (xs : List (List ℕ)) → best_of g bound xs ≡ None → (y : List ℕ) → Memᴰ y xs → is_feasible g bound y ≡ true → ⊥
   none_found [] e y m f = Memᴰ.not-nil m
   none_found (x ∷ xs) e y m f = go (is_feasible g bound x) refl e (Memᴰ.cases_cons m) (none_found xs)
     where
-      go : (b : Bool) → is_feasible g bound x ≡ b → cond b (some (larger (weight_of g x) (best_of g bound xs))) (best_of g bound xs) ≡ none →
+      go : (b : Bool) → is_feasible g bound x ≡ b → cond b (Some (larger (weight_of g x) (best_of g bound xs))) (best_of g bound xs) ≡ None →
           (y ≡ x) ⊎ Memᴰ y xs
-          → (best_of g bound xs ≡ none → (y : List ℕ) → Memᴰ y xs → is_feasible g bound y ≡ true → ⊥) → ⊥
+          → (best_of g bound xs ≡ None → (y : List ℕ) → Memᴰ y xs → is_feasible g bound y ≡ true → ⊥) → ⊥
       go true p q c ih = zero_one (cc)
       go false p q (inl c) ih = zero_one (let r : is_feasible g bound y ≡ false = ap (is_feasible g bound) c ∙ p in cc)
       go false p q (inr c) ih = ih q y c f
@@ -142,7 +142,7 @@ module _ (g : Graph) (bound : List ℤ) where
       go y (inl c) f = zero_one (let r : is_feasible g bound y ≡ false = ap (is_feasible g bound) c ∙ p in cc)
       go y (inr c) f = F.most y c f
 
-  found_first : (x : List ℕ) (xs : List (List ℕ)) → is_feasible g bound x ≡ true → best_of g bound xs ≡ none → Found g bound (x ∷ xs) (weight_of g x)
+  found_first : (x : List ℕ) (xs : List (List ℕ)) → is_feasible g bound x ≡ true → best_of g bound xs ≡ None → Found g bound (x ∷ xs) (weight_of g x)
   found_first x xs p q = record { which = x; feasible = p; weighs = refl; most = λ y m f. go y (Memᴰ.cases_cons m) f }
     where
       go : (y : List ℕ) → (y ≡ x) ⊎ Memᴰ y xs → is_feasible g bound y ≡ true → weight_of g y ≤ℤ weight_of g x
@@ -150,29 +150,29 @@ module _ (g : Graph) (bound : List ℤ) where
       go y (inr c) f = absurd (none_found xs q y c f)
 
   found-both : (x : List ℕ) (xs : List (List ℕ)) (v : ℤ) → is_feasible g bound x ≡ true → Found g bound xs v →
-      Found g bound (x ∷ xs) (larger (weight_of g x) (some v))
+      Found g bound (x ∷ xs) (larger (weight_of g x) (Some v))
   found-both x xs v p F = go (larger_one (weight_of g x) v)
     where
-      most : (y : List ℕ) → (y ≡ x) ⊎ Memᴰ y xs → is_feasible g bound y ≡ true → weight_of g y ≤ℤ larger (weight_of g x) (some v)
-      most y (inl c) f = rw c (larger_left (weight_of g x) (some v))
+      most : (y : List ℕ) → (y ≡ x) ⊎ Memᴰ y xs → is_feasible g bound y ≡ true → weight_of g y ≤ℤ larger (weight_of g x) (Some v)
+      most y (inl c) f = rw c (larger_left (weight_of g x) (Some v))
       most y (inr c) f = ≤ℤ-trans (F.most y c f) (larger_right (weight_of g x) v)
 
-      go : (larger (weight_of g x) (some v) ≡ weight_of g x) ⊎ (larger (weight_of g x) (some v) ≡ v) → Found g bound (x ∷ xs) (larger (weight_of g x) (some v))
+      go : (larger (weight_of g x) (Some v) ≡ weight_of g x) ⊎ (larger (weight_of g x) (Some v) ≡ v) → Found g bound (x ∷ xs) (larger (weight_of g x) (Some v))
       go (inl e) = record { which = x; feasible = p; weighs = sym e; most = λ y m f. most y (Memᴰ.cases_cons m) f }
       go (inr e) = record { which = F.which; feasible = F.feasible; weighs = F.weighs ∙ sym e; most = λ y m f. most y (Memᴰ.cases_cons m) f }
 
-  found-best : (xs : List (List ℕ)) (w : ℤ) → best_of g bound xs ≡ some w → Found g bound xs w
+  found-best : (xs : List (List ℕ)) (w : ℤ) → best_of g bound xs ≡ Some w → Found g bound xs w
   found-best [] w e = zero_one (cc)
   found-best (x ∷ xs) w e = go (is_feasible g bound x) (best_of g bound xs) refl refl e (found-best xs)
     where
-      go : (b : Bool) (o : Option ℤ) → is_feasible g bound x ≡ b → best_of g bound xs ≡ o → cond b (some (larger (weight_of g x) o)) o ≡ some w
-          → ((v : ℤ) → best_of g bound xs ≡ some v → Found g bound xs v) → Found g bound (x ∷ xs) w
+      go : (b : Bool) (o : Option ℤ) → is_feasible g bound x ≡ b → best_of g bound xs ≡ o → cond b (Some (larger (weight_of g x) o)) o ≡ Some w
+          → ((v : ℤ) → best_of g bound xs ≡ Some v → Found g bound xs v) → Found g bound (x ∷ xs) w
       go false o p q h ih = found-later x xs w p (ih w (q ∙ h))
-      go true none p q h ih = let s : weight_of g x ≡ w = cc in subst (Found g bound (x ∷ xs)) s (found_first x xs p q)
-      go true (some v) p q h ih = let s : larger (weight_of g x) (some v) ≡ w = cc in subst (Found g bound (x ∷ xs)) s (found-both x xs v p (ih v q))
+      go true None p q h ih = let s : weight_of g x ≡ w = cc in subst (Found g bound (x ∷ xs)) s (found_first x xs p q)
+      go true (Some v) p q h ih = let s : larger (weight_of g x) (Some v) ≡ w = cc in subst (Found g bound (x ∷ xs)) s (found-both x xs v p (ih v q))
 
   -- The weight that trying finds is that of an optimal subgraph.
-  pub best_optimal : (w : ℤ) → best g bound ≡ some w → (x : List ℕ) × Optimal g bound x × (weight_of g x ≡ w)
+  pub best_optimal : (w : ℤ) → best g bound ≡ Some w → (x : List ℕ) × Optimal g bound x × (weight_of g x ≡ w)
   best_optimal w e =
       let F = found-best (subgraphs g.edges) w e in
       (F.which, record { feasible = feasible_yes g bound F.which F.feasible; most = λ y f. rw F.weighs (all_less F y f) }, F.weighs)
@@ -181,7 +181,7 @@ module _ (g : Graph) (bound : List ℤ) where
       all_less F y f = F.most y (tried g.edges y f.long f.marks) (yes_feasible g bound y f)
 
   -- A feasible subgraph of that weight is optimal.
-  pub weighs_best : (x : List ℕ) → is_feasible g bound x ≡ true → best g bound ≡ some (weight_of g x) → Optimal g bound x
+  pub weighs_best : (x : List ℕ) → is_feasible g bound x ≡ true → best g bound ≡ Some (weight_of g x) → Optimal g bound x
   weighs_best x p e =
       let F = found-best (subgraphs g.edges) (weight_of g x) e in
       record { feasible = feasible_yes g bound x p; most = λ y f. F.most y (tried g.edges y f.long f.marks) (yes_feasible g bound y f) }
@@ -191,5 +191,5 @@ module _ (g : Graph) (bound : List ℤ) where
   some_optimal x f = go (best g bound) refl
     where
       go : (o : Option ℤ) → best g bound ≡ o → (y : List ℕ) × Optimal g bound y
-      go none e = absurd (none_found (subgraphs g.edges) e x (tried g.edges x f.long f.marks) (yes_feasible g bound x f))
-      go (some w) e = let b = best_optimal w e in (b.0, b.1)
+      go None e = absurd (none_found (subgraphs g.edges) e x (tried g.edges x f.long f.marks) (yes_feasible g bound x f))
+      go (Some w) e = let b = best_optimal w e in (b.0, b.1)

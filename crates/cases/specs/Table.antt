@@ -1,10 +1,10 @@
 -- The table for the proof: the twelve marked cases of document 01, each with what must come out. Prices, totals, slacks and gaps are in half points, twice
 -- what document 01 says (request U5).
-use Rattle.std.specs.Prelude.{ℕ, ◌≡◌, List, [], ◌∷◌, ◌++◌, ℤ, pos, negsuc, length, replicate}
+use Rattle.std.specs.Prelude.{ℕ, ◌≡◌, List, [], ◌∷◌, ◌++◌, ℤ, pos, negsuc, length, replicate, Ok}
 use Prim.Native.String.{String}
 use Rattle.graph.specs.declared.Kind.TheVariants.{Bipartite, General}
 use Rattle.graph.specs.Limits.{most_edges}
-use Rattle.graph.specs.Refusal.{Outcome, yields, told, refused_with}
+use Rattle.graph.specs.Refusal.{Outcome, told, refused_with}
 use Rattle.graph.specs.Graph.{Graph, graph_of, vertices}
 use Rattle.graph.specs.Index.{index_of}
 use Rattle.graph.specs.Subgraph.{Optimal, weight_of}
@@ -72,16 +72,16 @@ read_limits c text = read_numbers Bounds (vertices c.graph) (vertices c.graph) t
 abbrev pub States : Case → Claim → Type 0
 States c (largest w) = (x : List ℕ) × Optimal c.graph c.bound x × (weight_of c.graph x ≡ w)
 States c optimal = Optimal c.graph c.bound c.chosen
-States c (line s) = (m : Measures) × (measuring c ≡ yields m) × (measured_line m ≡ bytes s ++ (10 ∷ []))
-States c (gap z) = (m : Measures) × (measuring c ≡ yields m) × (m.gap ≡ z)
+States c (line s) = (m : Measures) × (measuring c ≡ Ok m) × (measured_line m ≡ bytes s ++ (10 ∷ []))
+States c (gap z) = (m : Measures) × (measuring c ≡ Ok m) × (m.gap ≡ z)
 States c (capacity_of s q) = capacity c.graph c.bound c.prices.marks s ≡ q
-States c taken = (m : Measures) × (measuring c ≡ yields m)
+States c taken = (m : Measures) × (measuring c ≡ Ok m)
 States c (refused n p) = told (measuring c) ≡ refused_with n p
-States c solved = solving c ≡ yields tt
+States c solved = solving c ≡ Ok tt
 States c (unsolved n p) = told (solving c) ≡ refused_with n p
-States c (sheet_taken text) = (g : Graph) × (read_sheet text ≡ yields g) × (g.weight ≡ c.graph.weight)
+States c (sheet_taken text) = (g : Graph) × (read_sheet text ≡ Ok g) × (g.weight ≡ c.graph.weight)
 States c (sheet_refused text n p) = told (read_sheet text) ≡ refused_with n p
-States c (limits_taken text) = read_limits c text ≡ yields c.bound
+States c (limits_taken text) = read_limits c text ≡ Ok c.bound
 States c (limits_refused text n p) = told (read_limits c text) ≡ refused_with n p
 
 -- Every member of a list has the property.

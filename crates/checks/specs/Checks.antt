@@ -1,16 +1,7 @@
 -- What a check says, and the table of the ends seen so far.
 use Rattle.std.specs.Prelude.{ℕ, ◌+◌, ◌*◌, ◌-◌, ◌≤◌, ◌≡◌, Bool, cond, ◌&&◌, List, eqb, length, get_or}
-use Rattle.std.proofs.Math.Option.{some}
 use Rattle.graph.specs.Limits.{most_vertices}
-use Rattle.graph.specs.Refusal.{Outcome, yields, refuses}
 use Rattle.graph.specs.Graph.{some?}
-use Rattle.checks.specs.declared.Check.{Check}
-use Rattle.checks.specs.declared.Check.TheVariants as Check
-
--- What a check says.
-abbrev pub check_says : Check → Outcome (Unit {0})
-check_says Check.Passed = yields tt
-check_says (Check.Refused r) = refuses r.fault r.place
 
 -- A row or column that the table of ends has a flag for.
 pub record Flagged (r : ℕ) : Type 0 where

@@ -1,49 +1,54 @@
 // The tests that calls make on the numbers of a graph, on bounds, on a subgraph and on prices.
 #![tactic(auto)]
 
-ghost use Rattle.std.specs.Prelude.{ℕ, suc, ◌+◌, ◌-◌, ◌^◌, ◌<◌, ◌≡◌, not, [], ◌∷◌, eqb, length, get_or, set};
-ghost use Rattle.graph.specs.Refusal.{yields, refuses, once, lowest, passing};
+ghost use Rattle.std.specs.Prelude.{ℕ, Bool, suc, ◌+◌, ◌-◌, ◌^◌, ◌<◌, ◌≡◌, not, [], ◌∷◌, eqb, length, get_or, set, Some, Ok, Err};
+ghost use Rattle.graph.specs.Refusal.{refuses, once, each, lowest, passing};
 ghost use Rattle.graph.specs.Graph.{graph_of};
 ghost use Rattle.graph.specs.Tests.{graph_tests};
-ghost use Rattle.lowest.specs.Lowest.{lowest_says};
-ghost use Rattle.checks.specs.Checks.{check_says, Flagged, flag_place, table_flags, joined_in};
+ghost use Rattle.checks.specs.Checks.{Flagged, flag_place, table_flags, joined_in};
 
 use graph::{Fault, MOST_VERTICES, Refusal, Shape};
-use lowest::Lowest;
 
 // The flags of the table of ends: one for each row and column.
 pub const TABLE_FLAGS: usize = MOST_VERTICES * MOST_VERTICES;
 
-// What a check answers.
-#[derive(Clone, Copy)]
-pub enum Check {
-    Passed,
-    Refused(Refusal),
-}
-
 // A refusal at a place.
-pub fn refused(fault: Fault, place: u64) -> Check
-    ensures { result ≡ Check.Refused (record { fault = fault; place = place }) }
+pub fn refused(fault: Fault, place: u64) -> Result<(), Refusal>
+    ensures { result ≡ Err (record { fault = fault; place = place }) }
 {
-    Check::Refused(Refusal { fault, place })
+    Err(Refusal { fault, place })
 }
 
 // The refusal of item k, whose place counts from 1.
-pub fn refused_item(fault: Fault, k: usize) -> Check
+pub fn refused_item(fault: Fault, k: usize) -> Result<(), Refusal>
     requires { k < 2 ^ 40 }
-    ensures { check_says result ≡ refuses fault (suc k) }
+    ensures { result ≡ refuses fault (suc k) }
 {
-    refused(fault, k as u64 + 1)
+    Err(Refusal {
+        fault,
+        place: k as u64 + 1,
+    })
 }
 
 // A test that is made once, at place 0, and holds or not.
-pub fn check_once(fault: Fault, holds: bool) -> Check
-    ensures { check_says result ≡ passing (once fault holds ∷ []) (yields tt) }
+pub fn check_once(fault: Fault, holds: bool) -> Result<(), Refusal>
+    ensures { result ≡ passing (once fault holds ∷ []) (Ok tt) }
 {
     if holds {
-        Check::Passed
+        Ok(())
     } else {
-        refused(fault, 0)
+        Err(Refusal { fault, place: 0 })
+    }
+}
+
+// A test of items, of which `broken` is the lowest that breaks it.
+pub fn check_each(fault: Fault, broken: Option<usize>) -> Result<(), Refusal>
+    requires { (k : ℕ) → broken ≡ Some k → k < 2 ^ 40 }
+    ensures { (n : ℕ) (keeps : ℕ → Bool) → broken ≡ lowest n keeps → result ≡ passing (each fault n keeps ∷ []) (Ok tt) }
+{
+    match broken {
+        Some(k) => refused_item(fault, k),
+        None => Ok(()),
     }
 }
 
@@ -69,39 +74,27 @@ pub fn note(flags: &mut [u8], r: u32, c: u32) -> bool
 }
 
 // The lowest edge with the ends of an earlier one.
-fn lowest_repeat(row: &[u32], column: &[u32]) -> Lowest
+fn lowest_repeat(row: &[u32], column: &[u32]) -> Option<usize>
     requires row_len { length row.now ≡ length column.now }
     requires by_index { (e : ℕ) → e < length row.now → Flagged (get_or row.now e 0) × Flagged (get_or column.now e 0) }
-    ensures { lowest_says result ≡ lowest (length row.now) (λ e. not (joined_in row.now column.now e (get_or row.now e 0) (get_or column.now e 0))) }
+    ensures { result ≡ lowest (length row.now) (λ e. not (joined_in row.now column.now e (get_or row.now e 0) (get_or column.now e 0))) }
 {
     let mut flags = [0u8; TABLE_FLAGS];
-    let mut e = 0;
-    while e < row.len() {
+    for e in 0..row.len() {
         if note(&mut flags, row[e], column[e]) {
-            return Lowest::At(e);
+            return Some(e);
         }
-        e += 1;
     }
-    Lowest::Nothing
+    None
 }
 
 // The tests on a graph's numbers, in their order: sizes, ends, weights, equal ends.
-pub fn check_graph(s: Shape, row: &[u32], column: &[u32], weight: &[i32]) -> Check
+pub fn check_graph(s: Shape, row: &[u32], column: &[u32], weight: &[i32]) -> Result<(), Refusal>
     requires { (length row.now ≡ s.edges) × (length column.now ≡ s.edges) × (length weight.now ≡ s.edges) }
-    ensures { check_says result ≡ passing (graph_tests (graph_of s row.now column.now weight.now)) (yields tt) }
+    ensures { result ≡ passing (graph_tests (graph_of s row.now column.now weight.now)) (Ok tt) }
 {
-    if ranges::sizes_in_range(s) {
-        if let Lowest::At(e) = lowest::lowest_ends(s, row, column) {
-            return refused_item(Fault::Ends, e);
-        }
-        if let Lowest::At(e) = lowest::lowest_weight(weight) {
-            return refused_item(Fault::Weight, e);
-        }
-        if let Lowest::At(e) = lowest_repeat(row, column) {
-            return refused_item(Fault::SameEnds, e);
-        }
-        Check::Passed
-    } else {
-        refused(Fault::Sizes, 0)
-    }
+    check_once(Fault::Sizes, ranges::sizes_in_range(s))?;
+    check_each(Fault::Ends, lowest::lowest_ends(s, row, column))?;
+    check_each(Fault::Weight, lowest::lowest_weight(weight))?;
+    check_each(Fault::SameEnds, lowest_repeat(row, column))
 }

@@ -2,3 +2,4 @@ pub mod Over
 pub mod Numbers
 pub mod Signs
 pub mod Parts
+pub mod Appending

@@ -111,10 +111,6 @@ puts_next p q h = puts_then p q (omega (arith, p.place, q.place))
 pub part-is : {N : Type 0} (d : List N) (at : ℕ) → take (length d - at) (drop at d) ≡ drop at d
 part-is d at = take_all (length d - at) (drop at d) (omega (arith, length-drop at d))
 
--- It has as many bytes as d has from `at` on.
-pub part-long : (d : List ℕ) (at : ℕ) → length (take (length d - at) (drop at d)) ≡ length d - at
-part-long d at = ap length (part-is d at) ∙ length-drop at d
-
 pub puts_part : (d : List ℕ) (at : ℕ) {xs after : List ℕ} {k : ℕ} → Puts (take (length d - at) (drop at d)) 0 xs after k
     → Puts d at xs (put_mid at (length d - at) d after) (at + k)
 puts_part d at {xs} p =

@@ -15,8 +15,7 @@ use integers::both;
 pub fn can_double(s: Shape) -> bool
     ensures { result ≡ may_double s.kind s.rows s.edges }
 {
-    let kind = s.kind;
-    match kind {
+    match s.kind {
         Kind::Bipartite => false,
         Kind::General => both(s.rows <= MOST_SIDE, s.edges <= MOST_DOUBLED_EDGES),
     }
@@ -35,44 +34,14 @@ pub fn doubled_shape(s: Shape) -> Shape
     }
 }
 
-// The number at i of two lists, one after the other.
-fn natural_in(first: &[u32], second: &[u32], i: usize) -> u32
-    requires { i < length first.now + length second.now }
-    ensures { result ≡ get_or (first.now ++ second.now) i 0 }
-{
-    let n = first.len();
-    if i < n { first[i] } else { second[i - n] }
-}
-
-fn integer_in(first: &[i32], second: &[i32], i: usize) -> i32
-    requires { i < length first.now + length second.now }
-    ensures { result ≡ get_or (first.now ++ second.now) i (pos 0) }
-{
-    let n = first.len();
-    if i < n { first[i] } else { second[i - n] }
-}
-
 // Sets `out` to two lists, one after the other.
-pub fn join_naturals(first: &[u32], second: &[u32], out: &mut [u32])
+pub fn join<T: Copy>(first: &[T], second: &[T], out: &mut [T])
     requires { length out.old ≡ length first.now + length second.now }
     ensures { out.new ≡ first.now ++ second.now }
 {
-    let mut i = 0;
-    while i < out.len() {
-        out[i] = natural_in(first, second, i);
-        i += 1;
-    }
-}
-
-pub fn join_integers(first: &[i32], second: &[i32], out: &mut [i32])
-    requires { length out.old ≡ length first.now + length second.now }
-    ensures { out.new ≡ first.now ++ second.now }
-{
-    let mut i = 0;
-    while i < out.len() {
-        out[i] = integer_in(first, second, i);
-        i += 1;
-    }
+    let (front, back) = out.split_at_mut(first.len());
+    front.copy_from_slice(first);
+    back.copy_from_slice(second);
 }
 
 // A price of the solver's in points.
@@ -91,10 +60,8 @@ pub fn sum_points(prices: &[i32], out: &mut [i32])
     ensures { (k : ℕ) → k < length out.old → half_points (get_or out.new k (pos 0)) ≡ get_or prices.now k (pos 0) +ℤ get_or prices.now (length out.old + k) (pos 0) }
 {
     let n = out.len();
-    let mut k = 0;
-    while k < n {
+    for k in 0..n {
         let sum = points_at(prices, k) + points_at(prices, n + k);
         integers::put_natural(out, k, sum);
-        k += 1;
     }
 }

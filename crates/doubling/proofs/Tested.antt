@@ -1,4 +1,5 @@
 -- What the tests of the call that prices a general graph show, and that what is shown passes them.
+use Rattle.std.specs.Prelude.{Ok}
 use Prim.Native.Nat.{ℕ, ◌≤◌}
 use mathlib.Core.Path.{◌≡◌, refl, sym, ap, ◌∙◌}
 use mathlib.Core.Bool.{Bool, true, false, true≢false, ◌&&◌}
@@ -12,7 +13,7 @@ use Rattle.graph.specs.declared.Kind.{Kind}
 use Rattle.graph.specs.declared.Kind.TheVariants.{Bipartite, General}
 use Rattle.graph.specs.declared.Fault.TheVariants.{LentLength, NotDoubled}
 use Rattle.graph.specs.Limits.{most_side, most_doubled_edges}
-use Rattle.graph.specs.Refusal.{yields, refuses, passing}
+use Rattle.graph.specs.Refusal.{refuses, passing}
 use Rattle.graph.specs.Graph.{Graph, vertices}
 use Rattle.graph.specs.Tests.{graph_lengths, graph_tests, bound_test}
 use Rattle.graph.specs.Doubled.{may_double, doubled_test}
@@ -36,10 +37,10 @@ can_double General rows edges e =
     let w = both (leb rows most_side) (leb edges most_doubled_edges) e in
     (refl, leb-true rows most_side w.0, leb-true edges most_doubled_edges w.1)
 
-pub general-passed : (g : Graph) (bound : List ℤ) (v e : ℕ) → price_general g bound v e ≡ yields tt → GeneralPassed g bound v e
+pub general-passed : (g : Graph) (bound : List ℤ) (v e : ℕ) → price_general g bound v e ≡ Ok tt → GeneralPassed g bound v e
 unfolding price_general
 general-passed g bound v e h =
-    let p = passes (general_tests g bound v e) (yields tt) tt h in
+    let p = passes (general_tests g bound v e) (Ok tt) tt h in
     let others = eqb v (vertices g) && eqb e g.edges in
     let first = both (graph_lengths g) (eqb (length bound) (vertices g) && others) (p.0.0 0 (omega arith)) in
     let second = both (eqb (length bound) (vertices g)) others first.1 in
@@ -55,22 +56,22 @@ general-passed g bound v e h =
 
 -- What is left to the last test, of a graph that has passed with its bounds.
 general-comes : {g : Graph} {bound : List ℤ} → Passed g → Bounded (vertices g) bound →
-    price_general g bound (vertices g) g.edges ≡ passing (doubled_test g ∷ []) (yields tt)
+    price_general g bound (vertices g) g.edges ≡ passing (doubled_test g ∷ []) (Ok tt)
 unfolding price_general
 general-comes {g} {bound} P B =
     let rest = bound_test g bound ∷ doubled_test g ∷ [] in
     once-passes LentLength (graph_lengths g && (eqb (length bound) (vertices g) && (eqb (vertices g) (vertices g) && eqb g.edges g.edges)))
-    (graph_tests g ++ rest) (yields tt)
+    (graph_tests g ++ rest) (Ok tt)
     (passed_lengths P also (eq-eqb (length bound) (vertices g) B.long also (eq-eqb (vertices g) (vertices g) refl also eq-eqb g.edges g.edges refl)))
-    ∙ passing-append (graph_tests g) rest (yields tt)
-    ∙ pass (graph_tests g) (passed_tests P) (passing rest (yields tt))
-    ∙ pass (bound_test g bound ∷ []) (bounds_test g bound B) (passing (doubled_test g ∷ []) (yields tt))
+    ∙ passing-append (graph_tests g) rest (Ok tt)
+    ∙ pass (graph_tests g) (passed_tests P) (passing rest (Ok tt))
+    ∙ pass (bound_test g bound ∷ []) (bounds_test g bound B) (passing (doubled_test g ∷ []) (Ok tt))
 
 -- A graph that is doubled is taken with its bounds.
-pub general-takes : {g : Graph} {bound : List ℤ} → Doublable g → Bounded (vertices g) bound → price_general g bound (vertices g) g.edges ≡ yields tt
+pub general-takes : {g : Graph} {bound : List ℤ} → Doublable g → Bounded (vertices g) bound → price_general g bound (vertices g) g.edges ≡ Ok tt
 general-takes {g} D B =
     general-comes D.passed B
-    ∙ once-passes NotDoubled (may_double g.kind g.rows g.edges) [] (yields tt)
+    ∙ once-passes NotDoubled (may_double g.kind g.rows g.edges) [] (Ok tt)
     (ap (λ k. may_double k g.rows g.edges) D.general
     ∙ (le-leb g.rows most_side D.few also le-leb g.edges most_doubled_edges D.few_edges))
 
@@ -79,7 +80,7 @@ pub undoubled_refused : {g : Graph} {bound : List ℤ} → Passed g → Bounded 
     price_general g bound (vertices g) g.edges ≡ refuses NotDoubled 0
 undoubled_refused {g} P B never =
     let can = may_double g.kind g.rows g.edges in
-    general-comes P B ∙ once-refuses NotDoubled can [] (yields tt) (cannot can refl)
+    general-comes P B ∙ once-refuses NotDoubled can [] (Ok tt) (cannot can refl)
   where
     cannot : (b : Bool) → may_double g.kind g.rows g.edges ≡ b → b ≡ false
     cannot false e = refl

@@ -1,13 +1,12 @@
 -- What the measuring call yields: a refusal, or the seven numbers.
-use Rattle.std.specs.Prelude.{ℕ, ◌+◌, ◌*◌, min, Bool, ◌&&◌, List, [], ◌∷◌, ◌++◌, ltb, eqb, ℤ, pos, length, get_or}
+use Rattle.std.specs.Prelude.{ℕ, ◌+◌, ◌*◌, min, Bool, ◌&&◌, List, [], ◌∷◌, ◌++◌, ltb, eqb, ℤ, pos, length, get_or, Ok, Err}
 use Rattle.graph.specs.declared.Fault.TheVariants.{LentLength, Price, OddSet, Uncovered}
 use Rattle.graph.specs.Limits.{most_sets, vertex_words, edge_words}
-use Rattle.graph.specs.Refusal.{Outcome, yields, Told, tells, refused_with, number_of, Test, once, each, passing}
+use Rattle.graph.specs.Refusal.{Outcome, Told, tells, refused_with, number_of, Test, once, each, passing}
 use Rattle.graph.specs.Graph.{Graph, vertices, price_in_range}
 use Rattle.graph.specs.Subgraph.{weight_of}
 use Rattle.graph.specs.Tests.{graph_lengths, graph_tests, bound_test, mark_test, degree_test}
 use Rattle.dual.specs.declared.Measures.{Measures}
-use Rattle.dual.specs.declared.MeasureAnswer.{MeasureAnswer}
 use Rattle.dual.specs.Sets.{keeps_rules}
 use Rattle.dual.specs.Prices.{Prices, all_prices}
 use Rattle.dual.specs.Gap.{covered, total_of, gap_of, vertex_slack, set_slack, edge_slack, cover_slack}
@@ -51,9 +50,4 @@ measure_tests g bound x P =
 
 -- What the measuring call yields.
 unfoldable pub measure : Graph → List ℤ → List ℕ → Prices → Outcome Measures
-measure g bound x P = passing (measure_tests g bound x P) (yields (measures g bound x P))
-
--- What its answer says: the seven numbers, or a refusal's number and place.
-abbrev pub measure_says : MeasureAnswer → Told Measures
-measure_says (MeasureAnswer.Measured m) = tells m
-measure_says (MeasureAnswer.Refused r) = refused_with (number_of r.fault) r.place
+measure g bound x P = passing (measure_tests g bound x P) (Ok (measures g bound x P))

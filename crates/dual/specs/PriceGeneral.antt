@@ -1,11 +1,10 @@
 -- When the call that prices a general graph (a tank sheet; document 02, U8) refuses, and what holds of its prices.
-use Rattle.std.specs.Prelude.{ℕ, ◌+◌, ◌<◌, ◌≡◌, ◌&&◌, List, [], ◌∷◌, ◌++◌, eqb, ℤ, pos, ◌+ℤ◌, length, replicate}
+use Rattle.std.specs.Prelude.{ℕ, ◌+◌, ◌<◌, ◌≡◌, ◌&&◌, List, [], ◌∷◌, ◌++◌, eqb, ℤ, pos, ◌+ℤ◌, length, replicate, Ok, Err}
 use Rattle.graph.specs.declared.Fault.{Fault}
-use Rattle.graph.specs.Refusal.{Outcome, yields, refuses, Told, tells, refused_with, number_of, Test, passing}
+use Rattle.graph.specs.Refusal.{Outcome, refuses, Told, tells, refused_with, number_of, Test, passing}
 use Rattle.graph.specs.Graph.{Graph, vertices}
 use Rattle.graph.specs.Tests.{bounded_tests}
 use Rattle.graph.specs.Doubled.{doubled, doubled_bounds, doubled_test}
-use Rattle.dual.specs.declared.PriceAnswer.{PriceAnswer}
 use Rattle.dual.specs.Prices.{Prices, vertex_price, edge_price}
 use Rattle.dual.specs.Gap.{half_points}
 use Rattle.dual.specs.Solve.{Outputs, solver_prices, Solved, without_sets}
@@ -17,12 +16,7 @@ general_tests g bound v e = bounded_tests g bound (eqb v (vertices g) && eqb e g
 
 -- When it refuses.
 unfoldable pub price_general : Graph → List ℤ → ℕ → ℕ → Outcome (Unit {0})
-price_general g bound v e = passing (general_tests g bound v e) (yields tt)
-
--- What its answer says: that the graph is priced, or a refusal's number and place.
-abbrev pub price_says : PriceAnswer → Told (Unit {0})
-price_says PriceAnswer.Priced = tells tt
-price_says (PriceAnswer.Refused r) = refused_with (number_of r.fault) r.place
+price_general g bound v e = passing (general_tests g bound v e) (Ok tt)
 
 -- The doubled graph is solved by S, and each vertex and each edge has, as half points, the sum of its two prices there in points. These are counted in half
 -- points, so that twice the price is the sum of the two.
@@ -39,7 +33,7 @@ pub record DoublyPriced (g : Graph) (bound : List ℤ) (P : Prices) : Type 0 whe
 -- What it leaves of v numbers for the prices of vertices and e for those of edges: where it accepts the graph, such prices, and where it refuses only zeros.
 -- All is as long as before.
 pub record GeneralLeft (g : Graph) (bound : List ℤ) (v e : ℕ) (vertex edge : List ℤ) : Type 0 where
-  pub priced : price_general g bound v e ≡ yields tt → DoublyPriced g bound (without_sets vertex edge)
+  pub priced : price_general g bound v e ≡ Ok tt → DoublyPriced g bound (without_sets vertex edge)
   pub refused : (fault : Fault) (place : ℕ) → price_general g bound v e ≡ refuses fault place →
       (vertex ≡ replicate v (pos 0)) × (edge ≡ replicate e (pos 0))
   pub vertex_long : length vertex ≡ v

@@ -1,14 +1,13 @@
 -- When the solver refuses, and what holds of its answer.
-use Rattle.std.specs.Prelude.{ℕ, ◌<◌, ◌≡◌, Bool, ◌&&◌, List, [], ◌∷◌, ◌++◌, eqb, ℤ, pos, length, replicate, ◌≤ℤ◌}
+use Rattle.std.specs.Prelude.{ℕ, ◌<◌, ◌≡◌, Bool, ◌&&◌, List, [], ◌∷◌, ◌++◌, eqb, ℤ, pos, length, replicate, ◌≤ℤ◌, Ok, Err}
 use Rattle.graph.specs.Limits.{workspace_numbers, greatest_solver_price}
 use Rattle.graph.specs.declared.Fault.{Fault}
-use Rattle.graph.specs.Refusal.{Outcome, yields, refuses, Told, tells, refused_with, number_of, Test, passing}
+use Rattle.graph.specs.Refusal.{Outcome, refuses, Told, tells, refused_with, number_of, Test, passing}
 use Rattle.graph.specs.declared.Shape.{Shape}
 use Rattle.graph.specs.Graph.{Graph, shape_of, vertices, vertices_in}
 use Rattle.graph.specs.Subgraph.{Optimal}
 use Rattle.graph.specs.Tests.{bipartite_tests}
 use Rattle.graph.specs.Index.{index_numbers_in, index_test}
-use Rattle.dual.specs.declared.SolveAnswer.{SolveAnswer}
 use Rattle.dual.specs.Prices.{Prices, prices_of, vertex_price, edge_price}
 use Rattle.dual.specs.Gap.{half_points, worth_at, cover_of, gap_of}
 
@@ -44,12 +43,7 @@ solver_tests g bound index lent = bipartite_tests g bound (other_lengths (shape_
 
 -- When the solver refuses. It accepts a graph with its bounds and its index where none of these tests refuses.
 unfoldable pub solve : Graph → List ℤ → List ℕ → Lent → Outcome (Unit {0})
-solve g bound index lent = passing (solver_tests g bound index lent) (yields tt)
-
--- What its answer says: that the graph is solved, or a refusal's number and place.
-abbrev pub solve_says : SolveAnswer → Told (Unit {0})
-solve_says SolveAnswer.Solved = tells tt
-solve_says (SolveAnswer.Refused r) = refused_with (number_of r.fault) r.place
+solve g bound index lent = passing (solver_tests g bound index lent) (Ok tt)
 
 -- A price sheet of vertices and edges, and no odd sets.
 abbrev pub without_sets : List ℤ → List ℤ → Prices
@@ -83,7 +77,7 @@ pub record Zero (lent : Lent) (S : Outputs) : Type 0 where
 
 -- What the solver leaves: where it accepts the graph, a solution, and where it refuses only zeros; and the workspace holds zeros. All is as long as before.
 pub record Left (g : Graph) (bound : List ℤ) (index : List ℕ) (lent : Lent) (S : Outputs) (workspace : List ℤ) : Type 0 where
-  pub solved : solve g bound index lent ≡ yields tt → Solved g bound S
+  pub solved : solve g bound index lent ≡ Ok tt → Solved g bound S
   pub refused : (fault : Fault) (place : ℕ) → solve g bound index lent ≡ refuses fault place → Zero lent S
   pub cleared : workspace ≡ replicate lent.workspace (pos 0)
   pub chosen_long : length S.chosen ≡ lent.chosen

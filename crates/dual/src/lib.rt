@@ -1,14 +1,12 @@
-// What the solver and the calls that measure and that price answer, and the half points that they count in.
+// The numbers of a measuring, and the half points that they count in.
 #![tactic(auto)]
 
 ghost use Rattle.std.specs.Prelude.{◌≡◌, ◌+◌, ◌*◌, ◌^◌};
 ghost use Rattle.integers.specs.Integer.{up, dn, Within};
 ghost use Rattle.dual.specs.Gap.{half_points};
 
-use graph::Refusal;
-
 // The numbers of a measuring: the subgraph's weight (merit) in points, and in half points the prices' total, the four slacks (leftovers) and the gap.
-#[derive(Clone, Copy)]
+#[derive(Clone, Copy, Debug, PartialEq, Eq)]
 pub struct Measures {
     pub weight: i64,
     pub total: i64,
@@ -17,27 +15,6 @@ pub struct Measures {
     pub edges: i64,
     pub cover: i64,
     pub gap: i64,
-}
-
-// The measuring call's answer.
-#[derive(Clone, Copy)]
-pub enum MeasureAnswer {
-    Measured(Measures),
-    Refused(Refusal),
-}
-
-// The solver's answer.
-#[derive(Clone, Copy)]
-pub enum SolveAnswer {
-    Solved,
-    Refused(Refusal),
-}
-
-// The answer of the call that prices a general graph.
-#[derive(Clone, Copy)]
-pub enum PriceAnswer {
-    Priced,
-    Refused(Refusal),
 }
 
 // A number of points in half points.

@@ -25,14 +25,12 @@ pub fn nearest(
 {
     let mut best = goal;
     let mut place = reached;
-    let mut i = count;
-    while i < reached {
+    for i in count..reached {
         let v = order[i as usize] as usize;
         let d = distance[v];
         let nearer = d < best;
         place = pick(nearer, i, place);
         best = pick(nearer, d, best);
-        i += 1;
     }
     place
 }
@@ -43,9 +41,7 @@ pub fn settle(order: &mut [u32; MOST_LISTED], place: u32, count: u32) -> u32
     ensures { Settles order.old order.new place count result }
 {
     let v = order[place as usize];
-    let other = order[count as usize];
-    order[place as usize] = other;
-    order[count as usize] = v;
+    order.swap(place as usize, count as usize);
     v
 }
 
@@ -67,15 +63,12 @@ pub fn move_prices(
     goal: u32,
 )
     requires movable { Movable rows (entries order.now) (entries distance.now) (entries price.old) count goal }
-    requires price_len { length price.old ≡ most_vertices }
-    ensures { Shifted rows (entries order.now) (entries distance.now) (entries price.old) (entries price.new) count goal × (length price.new ≡ most_vertices) }
+    ensures { Shifted rows (entries order.now) (entries distance.now) (entries price.old) (entries price.new) count goal }
 {
-    let mut i = 0;
-    while i < count {
+    for i in 0..count {
         let v = order[i as usize];
         let at = v as usize;
         let by = goal - distance[at];
         price[at] = moved(rows, by, v, price[at]);
-        i += 1;
     }
 }

@@ -1,4 +1,5 @@
 -- What the measuring call's numbers mean, and that the solver's prices certify its subgraph.
+use Rattle.std.specs.Prelude.{Ok}
 use Prim.Native.Nat.{ℕ}
 use mathlib.Core.Path.{◌≡◌, refl, sym, ap, ◌∙◌, subst}
 use mathlib.Core.List.{List}
@@ -6,7 +7,6 @@ use lib.IntN.{ℤ, pos, ◌-ℤ◌}
 use lib.ListN.{length}
 use Rattle.integers.specs.Integer.{up, dn}
 use Rattle.integers.proofs.Order.{up-diff, up-times, ≤ℤ-antisym, order}
-use Rattle.graph.specs.Refusal.{yields}
 use Rattle.graph.specs.Graph.{Graph, vertices}
 use Rattle.graph.specs.Subgraph.{Feasible, Optimal, weight_of, lacks}
 use Rattle.dual.specs.declared.Measures.{Measures}
@@ -45,7 +45,7 @@ zero_diff a b e = omega (order, ap up e, ap dn e, up-diff a b, up-times 2 (a -�
 -- ---- the numbers
 
 -- What the measuring call yields has its meaning.
-pub measured : {g : Graph} {bound : List ℤ} {x : List ℕ} {P : Prices} {M : Measures} → measure g bound x P ≡ yields M → Meaning g bound x P M
+pub measured : {g : Graph} {bound : List ℤ} {x : List ℕ} {P : Prices} {M : Measures} → measure g bound x P ≡ Ok M → Meaning g bound x P M
 measured {g} {bound} {x} {P} {M} e =
     let p = measure-passed e in
     let E : Incident g = passed_incident p.passed in
@@ -65,7 +65,7 @@ measured {g} {bound} {x} {P} {M} e =
     })
 
 -- A subgraph with measured gap 0 is optimal, in either kind of graph.
-pub no_gap_optimal : {g : Graph} {bound : List ℤ} {x : List ℕ} (P : Prices) {M : Measures} → measure g bound x P ≡ yields M → M.gap ≡ pos 0 → Optimal g bound x
+pub no_gap_optimal : {g : Graph} {bound : List ℤ} {x : List ℕ} (P : Prices) {M : Measures} → measure g bound x P ≡ Ok M → M.gap ≡ pos 0 → Optimal g bound x
 no_gap_optimal P e none =
     let p = measure-passed e in
     no_gap (passed_incident p.passed) (priced_dual p.priced) p.feasible (ap (λ (N : Measures). N.gap) (sym p.numbers) ∙ none)
@@ -83,7 +83,7 @@ solved_priced vertex_long edge_long D =
 
 -- The solver's prices certify its subgraph: against them a feasible subgraph has gap 0 just where it weighs as much.
 pub certified : {g : Graph} {bound : List ℤ} {index : List ℕ} {lent : Lent} {S : Outputs} {workspace : List ℤ} → Left g bound index lent S workspace →
-    solve g bound index lent ≡ yields tt → (y : List ℕ) → Feasible g bound y → Certified g bound S y
+    solve g bound index lent ≡ Ok tt → (y : List ℕ) → Feasible g bound y → Certified g bound S y
 certified {g} {bound} {index} {lent} {S} L e y F =
     let a = solve-passed g bound index lent e in
     let D = L.solved e in

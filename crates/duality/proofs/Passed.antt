@@ -1,4 +1,6 @@
 -- What a call's tests have shown once they have passed, test by test.
+use Rattle.graph.specs.Refusal.{Outcome}
+use Rattle.std.specs.Prelude.{Ok}
 use Prim.Native.Nat.{ℕ, ◌+◌, ◌*◌, ◌-◌, ◌≤◌, ◌<◌}
 use mathlib.Core.Path.{◌≡◌, refl, sym, ap, ◌∙◌, subst}
 use mathlib.Core.Bool.{true, not, ◌&&◌, ◌||◌, true≢false}
@@ -15,7 +17,6 @@ use Rattle.integers.proofs.Order.{le_z_true, le-le_z, between-true, le-between}
 use Rattle.graph.specs.declared.Kind.{Kind}
 use Rattle.graph.specs.declared.Kind.TheVariants.{Bipartite, General}
 use Rattle.graph.specs.Limits.{greatest_price, vertex_words, edge_words, workspace_numbers}
-use Rattle.graph.specs.Refusal.{yields}
 use Rattle.graph.specs.Graph.{Graph, shape_of, vertices, column_vertex, column_at, first_end, second_end, bound_at, up_to, sizes_in_range, price_in_range}
 use Rattle.graph.specs.Index.{index_numbers, index_test}
 use Rattle.graph.specs.Subgraph.{Feasible, mark_at, degree}
@@ -165,13 +166,13 @@ pub record MeasurePassed (g : Graph) (bound : List ℤ) (x : List ℕ) (P : Pric
   pub priced : Priced g bound P
   pub numbers : M ≡ measures g bound x P
 
-yields_same : {A : Type 0} {a b : A} → yields a ≡ yields b → a ≡ b
+yields_same : {A : Type 0} {a b : A} → ◌≡◌ {A = Outcome A} (Ok a) (Ok b) → a ≡ b
 yields_same e = cc
 
-pub measure-passed : {g : Graph} {bound : List ℤ} {x : List ℕ} {P : Prices} {M : Measures} → measure g bound x P ≡ yields M → MeasurePassed g bound x P M
+pub measure-passed : {g : Graph} {bound : List ℤ} {x : List ℕ} {P : Prices} {M : Measures} → measure g bound x P ≡ Ok M → MeasurePassed g bound x P M
 unfolding measure
 measure-passed {g} {bound} {x} {P} {M} e =
-    let p = passes (measure_tests g bound x P) (yields (measures g bound x P)) M e in
+    let p = passes (measure_tests g bound x P) (Ok (measures g bound x P)) M e in
     let lengths =
     held (graph_lengths g)
     (eqb (length bound) (vertices g) ∷ eqb (length x) g.edges ∷ eqb (length P.vertex) (vertices g) ∷ eqb (length P.edge) g.edges
@@ -195,7 +196,7 @@ measure-passed {g} {bound} {x} {P} {M} e =
 
 -- The measuring call takes what passes.
 pub measure-takes : {g : Graph} {bound : List ℤ} {x : List ℕ} {P : Prices} → Passed g → Bounded (vertices g) bound → Feasible g bound x → Priced g bound P →
-    measure g bound x P ≡ yields (measures g bound x P)
+    measure g bound x P ≡ Ok (measures g bound x P)
 unfolding measure
 measure-takes {g} {bound} {x} {P} S B F p =
     let subgraph = feasible_passes F in
@@ -205,7 +206,7 @@ measure-takes {g} {bound} {x} {P} S B F p =
           (passed_tests S)
           ((bounds_test g bound B).0, (subgraph.0, (subgraph.1.0, priced_passes p))),
     )
-    (yields (measures g bound x P))
+    (Ok (measures g bound x P))
   where
     long : measure_lengths g bound x P ≡ true
     long =
@@ -251,10 +252,10 @@ bipartite-true Bipartite rows columns edges e h =
     }
 bipartite-true General rows columns edges e h = absurd (true≢false (sym e))
 
-pub solve-passed : (g : Graph) (bound : List ℤ) (index : List ℕ) (lent : Lent) → solve g bound index lent ≡ yields tt → SolvePassed g bound index lent
+pub solve-passed : (g : Graph) (bound : List ℤ) (index : List ℕ) (lent : Lent) → solve g bound index lent ≡ Ok tt → SolvePassed g bound index lent
 unfolding solve
 solve-passed g bound index lent e =
-    let p = passes (solver_tests g bound index lent) (yields tt) tt e in
+    let p = passes (solver_tests g bound index lent) (Ok tt) tt e in
     let others = other_lengths (shape_of g) (length index) lent in
     let first = both (graph_lengths g) (eqb (length bound) (vertices g) && others) (p.0.0 0 (omega arith)) in
     let second = both (eqb (length bound) (vertices g)) others first.1 in

@@ -1,6 +1,5 @@
 -- What the measuring call's numbers mean, and what they say of the solver's prices.
-use Rattle.std.specs.Prelude.{ℕ, ◌≤◌, ◌<◌, ◌≡◌, ◌↔◌, List, ℤ, pos, ◌+ℤ◌, ◌≤ℤ◌}
-use Rattle.graph.specs.Refusal.{yields}
+use Rattle.std.specs.Prelude.{ℕ, ◌≤◌, ◌<◌, ◌≡◌, ◌↔◌, List, ℤ, pos, ◌+ℤ◌, ◌≤ℤ◌, Ok}
 use Rattle.graph.specs.Graph.{Graph}
 use Rattle.graph.specs.Subgraph.{Feasible, Optimal, weight_of, lacks}
 use Rattle.dual.specs.declared.Measures.{Measures}
@@ -28,7 +27,7 @@ pub record Meaning (g : Graph) (bound : List ℤ) (x : List ℕ) (P : Prices) (M
 -- subgraph, so that its gap is 0 where it weighs as much, or, which is the same, where it is optimal, and not otherwise.
 pub record Certified (g : Graph) (bound : List ℤ) (S : Outputs) (y : List ℕ) : Type 0 where
   pub numbers : Measures
-  pub measured : measure g bound y (solver_prices S) ≡ yields numbers
+  pub measured : measure g bound y (solver_prices S) ≡ Ok numbers
   pub exact : numbers.gap ≡ half_points (lacks g S.chosen y)
   pub gap_is_zero : (numbers.gap ≡ pos 0) ↔ (weight_of g y ≡ weight_of g S.chosen)
   pub optimal : (numbers.gap ≡ pos 0) ↔ Optimal g bound y

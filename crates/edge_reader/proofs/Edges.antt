@@ -1,25 +1,19 @@
 -- The loop that reads edges, on plain values: the outputs hold the edges read so far, and then 0, and the table has a flag for their ends.
+use Rattle.std.specs.Prelude.{Ok, Err, Option, Some, None}
 use Prim.Native.Nat.{ℕ, ◌+◌, ◌<◌, ◌≤◌}
 use mathlib.Core.Path.{◌≡◌, refl, sym, ap, ap₂, ◌∙◌, subst}
 use mathlib.Core.Bool.{Bool, true, false, cond}
 use mathlib.Core.List.{List, [], ◌∷◌, ◌++◌}
 use native.Mathlib.Omega.{arith}
-use lib.Dec.{ltb, eqb, lit<}
+use lib.Dec.{ltb, eqb}
 use lib.IntN.{ℤ, pos}
-use lib.ListN.{length, get_or, set, length-set, length-append}
-use mir.Syntax.{w32}
-use mir.Val.{to_z, of_z}
-use mir.Facts.{to_z-of_z}
-use Rattle.integers.proofs.Order.{fits_within}
+use lib.ListN.{length, get_or, set, length-append}
 use Rattle.graph.specs.declared.Shape.{Shape}
 use Rattle.graph.specs.declared.Fault.TheVariants.{SameEnds}
 use Rattle.graph.specs.declared.Refusal.{Refusal}
-use Rattle.graph.specs.Refusal.{Outcome, yields, refuses, told, reported, filled}
+use Rattle.graph.specs.Refusal.{Outcome, refuses, reported, filled}
 use Rattle.graph.specs.Graph.{Graph, graph_of, shape_of, shape_in_range, joined}
 use Rattle.graph.proofs.Ranges.{sizes_hold}
-use Rattle.graph.proofs.Passed.{weight_hold}
-use Rattle.layout.specs.declared.GraphAnswer.{GraphAnswer}
-use Rattle.layout.specs.declared.GraphAnswer.TheVariants as GraphAnswer
 use Rattle.layout.specs.Lines.{Step, goes, stops}
 use Rattle.layout.specs.GraphText.{no_edges, with_edge}
 use Rattle.text.specs.declared.Cursor.{Cursor}
@@ -30,29 +24,28 @@ use Rattle.lines.specs.Found.{Reached}
 use Rattle.lent.proofs.Filling.{filled_none, filled_more, filled-length, holds_refused, holds_yields}
 use Rattle.edge_reader.specs.Edges.{Cleared, left, left_after, EdgeNext, NextAs, GraphReading}
 use Rattle.edge_reader.specs.declared.EdgeText.{EdgeText}
-use Rattle.edge_reader.specs.declared.NextEdge.{NextEdge}
-use Rattle.edge_reader.specs.declared.NextEdge.TheVariants as NextEdge
+use Rattle.edge_reader.specs.declared.Edge.{Edge}
 
 -- A refusal reports itself, whatever the outputs hold.
 pub read_refused : {o : Outcome Graph} {row column : List ℕ} {weight : List ℤ} (x : Refusal) → refuses x.fault x.place ≡ o →
-    GraphReading o (GraphAnswer.Refused x) row column weight
-read_refused x e = record {
-  says = ap (λ (o : Outcome Graph). told (reported shape_of o)) e;
+    {y : Outcome Shape} → y ≡ Err x → GraphReading o y row column weight
+read_refused x e same = record {
+  says = same ∙ ap (λ (o : Outcome Graph). (reported shape_of o)) e;
   rows = holds_refused (sym e);
   columns = holds_refused (sym e);
   weights = holds_refused (sym e);
 }
 
 -- What was read is what another outcome yields, where the two are the same.
-pub read_as : {o W : Outcome Graph} {r : GraphAnswer} {row column : List ℕ} {weight : List ℤ} → GraphReading o r row column weight → o ≡ W →
+pub read_as : {o W : Outcome Graph} {r : (Outcome Shape)} {row column : List ℕ} {weight : List ℤ} → GraphReading o r row column weight → o ≡ W →
     GraphReading W r row column weight
 read_as {r = r} {row} {column} {weight} R e = subst (λ o. GraphReading o r row column weight) e R
 
 refusal_is : {x y : Refusal} → x ≡ y → ◌≡◌ {A = Outcome Graph} (refuses x.fault x.place) (refuses y.fault y.place)
 refusal_is e = ap (λ (z : Refusal). refuses z.fault z.place) e
 
--- The loop has read i edges of the shape's, into outputs as long as at the start; W is what reading yields.
-pub record EdgeTurn (what : EdgeText) (t : Shape) (s : List ℕ) (W : Outcome Graph) (j k m : ℕ) (row column : List ℕ) (weight : List ℤ) (seen : List ℕ) (c : Cursor) (i : ℕ) : Type 0 where
+-- The loop has read i edges of the shape's; W is what reading yields.
+pub record EdgeTurn (what : EdgeText) (t : Shape) (s : List ℕ) (W : Outcome Graph) (row column : List ℕ) (weight : List ℤ) (seen : List ℕ) (c : Cursor) (i : ℕ) : Type 0 where
   pub rows_read : List ℕ
   pub columns_read : List ℕ
   pub weights_read : List ℤ
@@ -67,14 +60,11 @@ pub record EdgeTurn (what : EdgeText) (t : Shape) (s : List ℕ) (W : Outcome Gr
   pub column_holds : column ≡ filled 1024 0 columns_read
   pub weight_holds : weight ≡ filled 1024 (pos 0) weights_read
   pub flags : Seen seen rows_read columns_read i
-  pub row_same : length row ≡ j
-  pub column_same : length column ≡ k
-  pub weight_same : length weight ≡ m
 
 pub turn_starts :
     {what : EdgeText} {t : Shape} {s : List ℕ} {row column : List ℕ} {weight : List ℤ} {c : Cursor} → Reached s c → shape_in_range t ≡ true →
     Cleared 1024 1024 1024 row column weight → (seen : List ℕ) → Seen seen [] [] 0 →
-    EdgeTurn what t s (left what s c (no_edges t)) (length row) (length column) (length weight) row column weight seen c 0
+    EdgeTurn what t s (left what s c (no_edges t)) row column weight seen c 0
 turn_starts r sizes Z seen flags = record {
   rows_read = [];
   columns_read = [];
@@ -90,9 +80,6 @@ turn_starts r sizes Z seen flags = record {
   column_holds = Z.columns ∙ filled_none 1024 0;
   weight_holds = Z.weights ∙ filled_none 1024 (pos 0);
   flags = flags;
-  row_same = refl;
-  column_same = refl;
-  weight_same = refl;
 }
 
 -- One number more in an output.
@@ -106,8 +93,8 @@ edge_taken z xs {i} x y holds count below same =
 counts : {N : Type 0} (xs : List N) (x : N) {i : ℕ} → length xs ≡ i → length (xs ++ (x ∷ [])) ≡ i + 1
 counts xs x e = length-append xs (x ∷ []) ∙ ap (λ k. k + 1) e
 
-module _ {what : EdgeText} {t : Shape} {s : List ℕ} {W : Outcome Graph} {j k m : ℕ} {row column : List ℕ} {weight : List ℤ} {seen : List ℕ} {c : Cursor} {i : ℕ}
-    (T : EdgeTurn what t s W j k m row column weight seen c i) where
+module _ {what : EdgeText} {t : Shape} {s : List ℕ} {W : Outcome Graph} {row column : List ℕ} {weight : List ℤ} {seen : List ℕ} {c : Cursor} {i : ℕ}
+    (T : EdgeTurn what t s W row column weight seen c i) where
   abbrev graph : Graph
   graph = graph_of t T.rows_read T.columns_read T.weights_read
 
@@ -127,66 +114,60 @@ module _ {what : EdgeText} {t : Shape} {s : List ℕ} {W : Outcome Graph} {j k m
   weight_length = long (pos 0) weight T.weights_read T.weight_holds T.weight_count
 
   -- What comes next says what reading yields.
-  module _ {r : NextEdge}
-      (F : (row column : List ℕ) (weight : List ℤ) → ltb (length row) t.edges ≡ ltb i t.edges → NextAs what s c (graph_of t row column weight) r) where
-    comes : (o : NextEdge) → r ≡ o → NextAs what s c graph o
-    comes o is =
-        subst (NextAs what s c graph) is
-        (F T.rows_read T.columns_read T.weights_read (ap (λ n. ltb n t.edges) T.row_count))
+  abbrev Comes : Outcome (Option (Edge × Cursor)) → Type 0
+  Comes o = (row column : List ℕ) (weight : List ℤ) → ltb (length row) t.edges ≡ ltb i t.edges → NextAs what s c (graph_of t row column weight) o
 
-    pub turn_done : r ≡ NextEdge.Done → GraphReading W (GraphAnswer.Graph t) row column weight
-    turn_done is =
-        let e : yields graph ≡ W = sym (comes NextEdge.Done is) ∙ T.whole in
-        record {
-          says = ap (λ (o : Outcome Graph). told (reported shape_of o)) e;
-          rows = holds_yields (sym e) T.row_holds;
-          columns = holds_yields (sym e) T.column_holds;
-          weights = holds_yields (sym e) T.weight_holds;
-        }
+  comes : (o : Outcome (Option (Edge × Cursor))) → Comes o → NextAs what s c graph o
+  comes o F = F T.rows_read T.columns_read T.weights_read (ap (λ n. ltb n t.edges) T.row_count)
 
-    pub turn_refused : {x : Refusal} → r ≡ NextEdge.Refused x → GraphReading W (GraphAnswer.Refused x) row column weight
-    turn_refused {x} is = read_refused x (sym (comes (NextEdge.Refused x) is) ∙ T.whole)
+  pub turn_done : Comes (Ok None) → GraphReading W (Ok t) row column weight
+  turn_done F =
+      let e : Ok graph ≡ W = sym (comes (Ok None) F) ∙ T.whole in
+      record {
+        says = ap (λ (o : Outcome Graph). (reported shape_of o)) e;
+        rows = holds_yields (sym e) T.row_holds;
+        columns = holds_yields (sym e) T.column_holds;
+        weights = holds_yields (sym e) T.weight_holds;
+      }
 
-    module _ {p q : ℕ} {w : ℤ} {d : Cursor} (is : r ≡ NextEdge.Is p q w d) where
-      pub turn_next : EdgeNext what s c graph p q w d
-      turn_next = comes (NextEdge.Is p q w d) is
+  pub turn_refused : {x : Refusal} → Comes (Err x) → {y : Outcome Shape} → y ≡ Err x → GraphReading W y row column weight
+  turn_refused {x} F same = read_refused x (sym (comes (Err x) F) ∙ T.whole) same
 
-      pub turn_below : i < 1024
-      turn_below = omega (arith, turn_next.more, T.row_count, few)
+  module _ {e : Edge} {d : Cursor} (F : Comes (Ok (Some (e, d)))) where
+    pub turn_next : EdgeNext what s c graph e d
+    turn_next = comes (Ok (Some (e, d))) F
 
-      pub turn_flagged : Flagged p × Flagged q
-      turn_flagged = ends_flagged t.kind t.rows t.columns t.edges p q T.sizes turn_next.ranged.ends
+    pub turn_below : i < 1024
+    turn_below = omega (arith, turn_next.more, T.row_count, few)
 
-      module _ {x : Bool} (noted : x ≡ eqb (get_or seen (flag_place p q) 0) 1) where
-        noted_does : (b : Bool) → x ≡ b → left_after what s d (cond b (stops SameEnds) (goes (with_edge graph p q w))) ≡ W
-        noted_does b e =
-            ap (λ (y : Bool). left_after what s d (cond {A = Step Graph} y (stops SameEnds) (goes (with_edge graph p q w))))
-            (sym (ap (λ n. joined graph n p q) T.row_count ∙ sym (seen_flag T.flags turn_flagged.0 turn_flagged.1) ∙ sym noted ∙ e))
-            ∙ sym turn_next.does ∙ T.whole
+    pub turn_flagged : Flagged e.row × Flagged e.column
+    turn_flagged = ends_flagged t.kind t.rows t.columns t.edges e.row e.column T.sizes turn_next.ranged.ends
 
-        pub turn_repeats : x ≡ true → {y : Refusal} → y ≡ record { fault = SameEnds; place = d.line } → GraphReading W (GraphAnswer.Refused y) row column weight
-        turn_repeats e {y} same = read_refused y (refusal_is same ∙ noted_does true e)
+    module _ {x : Bool} (noted : x ≡ eqb (get_or seen (flag_place e.row e.column) 0) 1) where
+      noted_does : (b : Bool) → x ≡ b → left_after what s d (cond b (stops SameEnds) (goes (with_edge graph e.row e.column e.weight))) ≡ W
+      noted_does b q =
+          ap (λ (y : Bool). left_after what s d (cond {A = Step Graph} y (stops SameEnds) (goes (with_edge graph e.row e.column e.weight))))
+          (sym (ap (λ n. joined graph n e.row e.column) T.row_count ∙ sym (seen_flag T.flags turn_flagged.0 turn_flagged.1) ∙ sym noted ∙ q))
+          ∙ sym turn_next.does ∙ T.whole
 
-        pub turn_takes : x ≡ false → (new : List ℕ) → new ≡ set seen (flag_place p q) 1 →
-            EdgeTurn what t s W j k m (set row i p) (set column i q) (set weight i (to_z w32 (of_z w32 w))) new d (i + 1)
-        turn_takes e new put = record {
-          rows_read = T.rows_read ++ (p ∷ []);
-          columns_read = T.columns_read ++ (q ∷ []);
-          weights_read = T.weights_read ++ (w ∷ []);
-          reached = turn_next.reached;
-          whole = noted_does false e;
-          row_count = counts T.rows_read p T.row_count;
-          column_count = counts T.columns_read q T.column_count;
-          weight_count = counts T.weights_read w T.weight_count;
-          room = omega (arith, turn_next.more, T.row_count);
-          sizes = T.sizes;
-          row_holds = edge_taken 0 T.rows_read p p T.row_holds T.row_count turn_below refl;
-          column_holds = edge_taken 0 T.columns_read q q T.column_holds T.column_count turn_below refl;
-          weight_holds =
-              edge_taken (pos 0) T.weights_read w (to_z w32 (of_z w32 w)) T.weight_holds T.weight_count turn_below
-              (to_z-of_z {w = w32} (fits_within w32 w (weight_hold w turn_next.ranged.weight) (lit< tt)));
-          flags = seen_append i new p q T.flags put T.row_count T.column_count turn_flagged.0 turn_flagged.1;
-          row_same = length-set row i p ∙ T.row_same;
-          column_same = length-set column i q ∙ T.column_same;
-          weight_same = length-set weight i (to_z w32 (of_z w32 w)) ∙ T.weight_same;
-        }
+      pub turn_repeats : x ≡ true → {y : Refusal} → y ≡ record { fault = SameEnds; place = d.line } → GraphReading W (Err y) row column weight
+      turn_repeats q {y} same = read_refused y (refusal_is same ∙ noted_does true q) refl
+
+      pub turn_takes : x ≡ false → (new : List ℕ) → new ≡ set seen (flag_place e.row e.column) 1 → {w : ℤ} → w ≡ e.weight →
+          EdgeTurn what t s W (set row i e.row) (set column i e.column) (set weight i w) new d (i + 1)
+      turn_takes q new put {w} same = record {
+        rows_read = T.rows_read ++ (e.row ∷ []);
+        columns_read = T.columns_read ++ (e.column ∷ []);
+        weights_read = T.weights_read ++ (e.weight ∷ []);
+        reached = turn_next.reached;
+        whole = noted_does false q;
+        row_count = counts T.rows_read e.row T.row_count;
+        column_count = counts T.columns_read e.column T.column_count;
+        weight_count = counts T.weights_read e.weight T.weight_count;
+        room = omega (arith, turn_next.more, T.row_count);
+        sizes = T.sizes;
+        row_holds = edge_taken 0 T.rows_read e.row e.row T.row_holds T.row_count turn_below refl;
+        column_holds = edge_taken 0 T.columns_read e.column e.column T.column_holds T.column_count turn_below refl;
+        weight_holds = edge_taken (pos 0) T.weights_read e.weight w T.weight_holds T.weight_count turn_below same;
+        flags = seen_append i new e.row e.column T.flags put T.row_count T.column_count turn_flagged.0 turn_flagged.1;
+      }

@@ -1,4 +1,3 @@
-pub mod Lines
 pub mod Next
 pub mod Edges
 pub mod Whole

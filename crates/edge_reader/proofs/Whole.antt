@@ -1,27 +1,26 @@
 -- What a reader of a graph answers and leaves, from its tests and from what reading the lines yields.
+use Rattle.std.specs.Prelude.{Ok, Err}
+use Rattle.std.specs.Result.{is_err}
 use Prim.Native.Nat.{ℕ}
 use mathlib.Core.Path.{◌≡◌, refl, sym, ap, ◌∙◌, subst}
-use mathlib.Core.Bool.{Bool, ◌&&◌}
+use mathlib.Core.Bool.{Bool, true, false, ◌&&◌}
 use mathlib.Core.List.{List}
 use lib.Dec.{eqb}
 use lib.IntN.{ℤ, pos}
 use lib.ListN.{length, replicate, length-replicate}
+use Rattle.graph.proofs.Passing.{zero_one}
 use Rattle.graph.specs.declared.Refusal.{Refusal}
 use Rattle.graph.specs.declared.Shape.{Shape}
-use Rattle.graph.specs.Refusal.{Outcome, yields, refuses, told, reported, output}
+use Rattle.graph.specs.Refusal.{Outcome, refuses, reported, output}
 use Rattle.graph.specs.Graph.{Graph, shape_of}
-use Rattle.graph.proofs.Told.{told_same}
-use Rattle.layout.specs.declared.GraphAnswer.{GraphAnswer}
-use Rattle.layout.specs.declared.GraphAnswer.TheVariants as GraphAnswer
-use Rattle.layout.specs.Answers.{graph_says}
 use Rattle.lent.specs.Holding.{Holds}
 use Rattle.lent.proofs.Filling.{left-yields, left-refused}
 use Rattle.edge_reader.specs.Edges.{Cleared, GraphReading}
 
 -- What a call that yields W answers and leaves, where its outputs have r, c and w numbers.
-abbrev pub GraphAnswered : Outcome Graph → ℕ → ℕ → ℕ → GraphAnswer → List ℕ → List ℕ → List ℤ → Type 0
+abbrev pub GraphAnswered : Outcome Graph → ℕ → ℕ → ℕ → (Outcome Shape) → List ℕ → List ℕ → List ℤ → Type 0
 GraphAnswered W r c w a row column weight =
-    (graph_says a ≡ told (reported shape_of W))
+    (a ≡ reported shape_of W)
     × ((row ≡ output r 0 (λ (g : Graph). g.row) W)
     × ((column ≡ output c 0 (λ (g : Graph). g.column) W) × (weight ≡ output w (pos 0) (λ (g : Graph). g.weight) W)))
 
@@ -44,19 +43,18 @@ module _ {r c w : ℕ} {row column : List ℕ} {weight : List ℤ} (C : Cleared 
   }
 
   -- The lengths were tested.
-  pub lengths_right : {a b : Bool} → a ≡ (eqb (length row) 1024 && eqb (length column) 1024) → b ≡ (a && eqb (length weight) 1024) →
+  pub lengths_right : {b : Bool} → b ≡ (eqb (length row) 1024 && eqb (length column) 1024 && eqb (length weight) 1024) →
       b ≡ (eqb r 1024 && eqb c 1024 && eqb w 1024)
-  lengths_right {a} p q =
-      q ∙ ap (λ (x : Bool). x && eqb (length weight) 1024) p
-      ∙ ap (λ k. eqb k 1024 && eqb (length column) 1024 && eqb (length weight) 1024) row_kept
+  lengths_right q =
+      q ∙ ap (λ k. eqb k 1024 && eqb (length column) 1024 && eqb (length weight) 1024) row_kept
       ∙ ap (λ k. eqb r 1024 && eqb k 1024 && eqb (length weight) 1024) column_kept
       ∙ ap (λ k. eqb r 1024 && eqb c 1024 && eqb k 1024) weight-kept
 
   -- A refusal leaves the outputs all 0.
-  pub refused_leaves : (W : Outcome Graph) (x : Refusal) → refuses x.fault x.place ≡ reported shape_of W →
-      GraphAnswered W r c w (GraphAnswer.Refused x) row column weight
-  refused_leaves W x e = (
-    ap told e,
+  pub refused_leaves : (W : Outcome Graph) (x : Refusal) → refuses x.fault x.place ≡ reported shape_of W → {a : Outcome Shape} → a ≡ Err x →
+      GraphAnswered W r c w a row column weight
+  refused_leaves W x e same = (
+    same ∙ e,
     (
       C.rows ∙ left-refused r 0 (λ (g : Graph). g.row) shape_of W x.fault x.place e,
       (
@@ -67,33 +65,33 @@ module _ {r c w : ℕ} {row column : List ℕ} {weight : List ℤ} (C : Cleared 
   )
 
 -- The tests have passed, so that the call yields what reading the lines does.
-module _ (W : Outcome Graph) {o : Outcome Graph} (passed : o ≡ W) {g : GraphAnswer} {row column : List ℕ} {weight : List ℤ}
+module _ (W : Outcome Graph) {o : Outcome Graph} (passed : o ≡ W) (g : Outcome Shape) {row column : List ℕ} {weight : List ℤ}
     (R : GraphReading o g row column weight) where
-  answered : (p : Outcome Shape) (m : GraphAnswer) → graph_says m ≡ told p → g ≡ m → p ≡ reported shape_of W
-  answered p m says it =
-      told_same p (reported shape_of W) (sym says ∙ ap graph_says (sym it) ∙ R.says ∙ ap (λ (u : Outcome Graph). told (reported shape_of u)) passed)
+  pub shape_read : g ≡ reported shape_of W
+  shape_read = R.says ∙ ap (λ (u : Outcome Graph). (reported shape_of u)) passed
 
-  pub shape_read : {t : Shape} → g ≡ GraphAnswer.Graph t → yields t ≡ reported shape_of W
-  shape_read {t} it = answered (yields t) (GraphAnswer.Graph t) refl it
-
-  pub refusal_read : {x : Refusal} → g ≡ GraphAnswer.Refused x → refuses x.fault x.place ≡ reported shape_of W
-  refusal_read {x} it = answered (refuses x.fault x.place) (GraphAnswer.Refused x) refl it
-
-  leaves : {N : Type 0} (z : N) (f : Graph → List N) {out : List N} {n : ℕ} → n ≡ 1024 → Holds 1024 z f o out → {t : Shape} → yields t ≡ reported shape_of W →
+  leaves : {N : Type 0} (z : N) (f : Graph → List N) {out : List N} {n : ℕ} → n ≡ 1024 → Holds 1024 z f o out → {t : Shape} → Ok t ≡ reported shape_of W →
       out ≡ output n z f W
   leaves z f {out} same H e = left-yields shape_of (subst (λ u. Holds 1024 z f u out) passed H) e ∙ ap (λ k. output k z f W) (sym same)
 
-  pub whole_read : {r c w : ℕ} → (r ≡ 1024) × (c ≡ 1024) × (w ≡ 1024) → {t : Shape} → g ≡ GraphAnswer.Graph t →
-      GraphAnswered W r c w (GraphAnswer.Graph t) row column weight
-  whole_read long it =
-      let e = shape_read it in (
-        ap told e,
+  -- Where no line was refused the outputs stay, and else they are cleared.
+  pub whole_read : {r c w : ℕ} → (r ≡ 1024) × (c ≡ 1024) × (w ≡ 1024) → is_err g ≡ false → GraphAnswered W r c w g row column weight
+  whole_read {r} {c} {w} long = go g shape_read
+    where
+      go : (h : Outcome Shape) → h ≡ reported shape_of W → is_err h ≡ false → GraphAnswered W r c w h row column weight
+      go (Err x) e q = zero_one (cc)
+      go (Ok t) e q = (
+        e,
         (
           leaves 0 (λ h. h.row) long.0 R.rows e,
           (leaves 0 (λ h. h.column) long.1 R.columns e, leaves (pos 0) (λ h. h.weight) long.2 R.weights e),
         ),
       )
 
-  pub whole_refused : {r c w : ℕ} {x : Refusal} {rowₙ columnₙ : List ℕ} {weightₙ : List ℤ} → g ≡ GraphAnswer.Refused x → Cleared r c w rowₙ columnₙ weightₙ →
-      GraphAnswered W r c w (GraphAnswer.Refused x) rowₙ columnₙ weightₙ
-  whole_refused {x = x} it C = refused_leaves C W x (refusal_read it)
+  pub whole_refused : {r c w : ℕ} {rowₙ columnₙ : List ℕ} {weightₙ : List ℤ} → is_err g ≡ true → Cleared r c w rowₙ columnₙ weightₙ →
+      GraphAnswered W r c w g rowₙ columnₙ weightₙ
+  whole_refused {r} {c} {w} {rowₙ} {columnₙ} {weightₙ} q C = go g shape_read q
+    where
+      go : (h : Outcome Shape) → h ≡ reported shape_of W → is_err h ≡ true → GraphAnswered W r c w h rowₙ columnₙ weightₙ
+      go (Ok t) e q = zero_one (cc)
+      go (Err x) e q = refused_leaves C W x e refl

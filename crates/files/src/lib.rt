@@ -1,8 +1,7 @@
 // Reads files by name, and writes to standard output.
 #![tactic(auto)]
 
-ghost use Rattle.std.specs.Prelude.{◌≤◌};
-ghost use Rattle.std.proofs.Math.ListN as list;
+ghost use Rattle.std.specs.Prelude.{◌≤◌, length};
 ghost use Rattle.io.specs.Counts.{IsPrefixLen};
 
 use graph::LONGEST_TEXT;
@@ -31,25 +30,23 @@ fn read_all<R: Read>(input: &mut R, out: &mut [u8]) -> usize
     done
 }
 
-// Reads a file from its start until it ends or `out` is full. The result is how many bytes came: 0 if the file is absent or cannot be read.
-pub fn read<R: Files>(rt: &R, path: &[u8], out: &mut [u8]) -> usize
-    ensures { IsPrefixLen result out.new }
+// Reads a file from its start until it ends or `buffer` is full. The result is the bytes that came: none if the file is absent or cannot be read.
+pub fn read<'a, R: Files>(rt: &R, path: &[u8], buffer: &'a mut [u8]) -> &'a [u8]
+    ensures { length result.now ≤ length buffer.old }
 {
-    let name = match str::from_utf8(path) {
-        Ok(name) => name,
-        Err(_) => return 0,
+    let Ok(name) = str::from_utf8(path) else {
+        return &[];
     };
-    match fs::open(rt, name) {
-        Ok(mut file) => read_all(&mut file, out),
+    let count = match fs::open(rt, name) {
+        Ok(mut file) => read_all(&mut file, buffer),
         Err(_) => 0,
-    }
+    };
+    &buffer[..count]
 }
 
-// Writes the first bytes of `out`, as many as `length` says, to standard output, and tells standard error where that fails.
-pub fn write<R: Print + Eprint>(rt: &R, out: &[u8], length: usize)
-    requires { length ≤ list.length out.now }
-{
-    if let Err(error) = rt.write_all(&out[..length]) {
+// Writes bytes to standard output, and tells standard error where that fails.
+pub fn write<R: Print + Eprint>(rt: &R, bytes: &[u8]) {
+    if let Err(error) = rt.write_all(bytes) {
         let _told = eprintln!(rt; "standard output: {error}");
     }
 }

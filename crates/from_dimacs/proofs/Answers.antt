@@ -1,9 +1,10 @@
 -- What `from_dimacs` writes, by what the reader yields.
+use Rattle.std.specs.Prelude.{Ok}
 use Prim.Native.Nat.{ℕ}
 use mathlib.Core.Path.{◌≡◌, sym, ap, ◌∙◌}
 use mathlib.Core.Bool.{true}
 use mathlib.Core.List.{List}
-use Rattle.graph.specs.Refusal.{Outcome, yields}
+use Rattle.graph.specs.Refusal.{Outcome}
 use Rattle.graph.specs.Graph.{Graph, shape_of, shape_in_range}
 use Rattle.graph.specs.Tests.{graph_lengths}
 use Rattle.graph.specs.Passed.{Passed}
@@ -25,7 +26,7 @@ module _ (crosses : List ℕ) where
   writes is = ap (λ (o : Outcome Graph). written graph_text (came_from Source.Assignment o)) (sym (lengths_lent (λ r c w b. read_assignment r c w b crosses)) ∙ is)
 
   -- A graph that it yields has passed the tests.
-  module _ (g : Graph) (is : lent_assignment crosses ≡ yields g) where
+  module _ (g : Graph) (is : lent_assignment crosses ≡ Ok g) where
     pub passed : Passed g
     passed = (assignment_passes lent_edges lent_edges weights_lent bounds_lent crosses g is).0
 

@@ -8,9 +8,9 @@ use files::FILE_BYTES;
 use graph::LONGEST_TEXT;
 
 fn main(rt: HostRuntime) {
-    let mut crosses = [0u8; FILE_BYTES];
-    let n = files::read(&rt, b"crosses.asn", &mut crosses);
+    let mut crosses_buffer = [0u8; FILE_BYTES];
+    let crosses = files::read(&rt, b"crosses.asn", &mut crosses_buffer);
     let mut out = [0u8; LONGEST_TEXT];
-    let length = output::from_dimacs_output(&crosses[..n], &mut out);
-    files::write(&rt, &out, length);
+    let length = output::from_dimacs_output(crosses, &mut out);
+    files::write(&rt, &out[..length]);
 }

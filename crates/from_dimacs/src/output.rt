@@ -4,7 +4,6 @@ ghost use Rattle.report.specs.Report.{Composed};
 ghost use Rattle.report.specs.Programs.{from_dimacs_output, whole_text_room};
 
 use graph::{LONGEST_TEXT, MOST_EDGES, MOST_VERTICES};
-use layout::GraphAnswer;
 use report::Source;
 
 // Writes what `from_dimacs` writes of an assignment text to `out`, 0 after its end. The result is its length; or 0, and `out` is cleared, where `out` has not
@@ -13,9 +12,8 @@ pub fn from_dimacs_output(crosses: &[u8], out: &mut [u8]) -> usize
     ensures inside { result ≤ length out.new }
     ensures composed { Composed whole_text_room (from_dimacs_output crosses.now) out.old out.new result }
 {
-    let other = out.len() != LONGEST_TEXT;
-    if other {
-        filling::clear_bytes(out);
+    if out.len() != LONGEST_TEXT {
+        filling::fill(out, 0);
         return 0;
     }
     let mut row = [0u32; MOST_EDGES];
@@ -29,8 +27,8 @@ pub fn from_dimacs_output(crosses: &[u8], out: &mut [u8]) -> usize
         &mut weight,
         &mut bound,
     ) {
-        GraphAnswer::Refused(refusal) => report::put_refused(out, Source::Assignment, refusal),
-        GraphAnswer::Graph(s) => {
+        Err(refusal) => report::put_refused(out, Source::Assignment, refusal),
+        Ok(s) => {
             let m = s.edges as usize;
             graph_writer::put_own(out, s, &row[..m], &column[..m], &weight[..m])
         }

@@ -1,4 +1,3 @@
 pub mod Tested
-pub mod Left
 pub mod Lent
 pub mod Summed

@@ -2,19 +2,15 @@
 #![tactic(auto)]
 
 ghost use Rattle.std.specs.Prelude.{◌+◌, ◌≡◌, length};
-ghost use Rattle.graph.specs.Refusal.{told};
 ghost use Rattle.graph.specs.Graph.{graph_of, vertices_in};
 ghost use Rattle.graph.specs.Passed.{Bounded};
-ghost use Rattle.checks.specs.Checks.{check_says};
 ghost use Rattle.dual.specs.Solve.{without_sets};
-ghost use Rattle.dual.specs.PriceGeneral.{price_general, price_says, DoublyPriced, GeneralLeft};
+ghost use Rattle.dual.specs.PriceGeneral.{price_general, DoublyPriced, GeneralLeft};
 ghost use Rattle.doubling.specs.Doublable.{Doublable};
 ghost use Rattle.method.specs.Method.{Solvable};
 ghost use Rattle.general_pricer.specs.SolvedWith.{SolvedWith, SummedFrom};
 
-use checks::Check;
-use dual::PriceAnswer;
-use graph::{Fault, MOST_EDGES, MOST_INDEX, MOST_VERTICES, Shape};
+use graph::{Fault, MOST_EDGES, MOST_INDEX, MOST_VERTICES, Refusal, Shape};
 use integers::both;
 
 // The tests, in their order. `vertex` and `edge` are the lengths of the outputs.
@@ -26,16 +22,13 @@ fn check_general(
     bound: &[i32],
     vertex: usize,
     edge: usize,
-) -> Check
-    ensures { check_says result ≡ price_general (graph_of s row.now column.now weight.now) bound.now vertex edge }
+) -> Result<(), Refusal>
+    ensures { result ≡ price_general (graph_of s row.now column.now weight.now) bound.now vertex edge }
 {
-    let n = graph::vertex_count(s) as usize;
+    let n = s.vertex_count() as usize;
     let others = both(vertex == n, edge == s.edges as usize);
-    if let Check::Refused(r) = lent::check_bounded(s, row, column, weight, bound, others) {
-        return Check::Refused(r);
-    }
-    let last = checks::check_once(Fault::NotDoubled, doubler::can_double(s));
-    last
+    lent::check_bounded(s, row, column, weight, bound, others)?;
+    checks::check_once(Fault::NotDoubled, doubler::can_double(s))
 }
 
 // Solves a bipartite graph for its prices, with an index and a workspace of its own.
@@ -88,7 +81,7 @@ fn sum_prices(
     requires vertex_price_len { (length vertex_price.old + length vertex_price.old ≡ vertices_in d) × (length edge_price.old + length edge_price.old ≡ d.edges) }
     ensures { SummedFrom (graph_of d row.now column.now weight.now) bound.now vertex_price.new edge_price.new }
 {
-    let n = graph::vertex_count(d) as usize;
+    let n = d.vertex_count() as usize;
     let m = d.edges as usize;
     let mut vertices = [0i32; MOST_VERTICES];
     let mut edges = [0i32; MOST_EDGES];
@@ -121,16 +114,16 @@ fn price_doubled(
     ensures { DoublyPriced (graph_of s row.now column.now weight.now) bound.now (without_sets vertex_price.new edge_price.new) }
 {
     let d = doubler::doubled_shape(s);
-    let n = graph::vertex_count(d) as usize;
+    let n = d.vertex_count() as usize;
     let m = d.edges as usize;
     let mut rows = [0u32; MOST_EDGES];
     let mut columns = [0u32; MOST_EDGES];
     let mut weights = [0i32; MOST_EDGES];
     let mut bounds = [0i32; MOST_VERTICES];
-    doubler::join_naturals(row, column, &mut rows[..m]);
-    doubler::join_naturals(column, row, &mut columns[..m]);
-    doubler::join_integers(weight, weight, &mut weights[..m]);
-    doubler::join_integers(bound, bound, &mut bounds[..n]);
+    doubler::join(row, column, &mut rows[..m]);
+    doubler::join(column, row, &mut columns[..m]);
+    doubler::join(weight, weight, &mut weights[..m]);
+    doubler::join(bound, bound, &mut bounds[..n]);
     sum_prices(
         d,
         &rows[..m],
@@ -151,8 +144,8 @@ pub fn price_general(
     bound: &[i32],
     vertex_price: &mut [i32],
     edge_price: &mut [i32],
-) -> PriceAnswer
-    ensures answer { price_says result ≡ told (price_general (graph_of s row.now column.now weight.now) bound.now (length vertex_price.old) (length edge_price.old)) }
+) -> Result<(), Refusal>
+    ensures answer { result ≡ price_general (graph_of s row.now column.now weight.now) bound.now (length vertex_price.old) (length edge_price.old) }
     ensures prices { GeneralLeft (graph_of s row.now column.now weight.now) bound.now (length vertex_price.old) (length edge_price.old) vertex_price.new edge_price.new }
 {
     let check = check_general(
@@ -164,11 +157,9 @@ pub fn price_general(
         vertex_price.len(),
         edge_price.len(),
     );
-    filling::clear_integers(vertex_price);
-    filling::clear_integers(edge_price);
-    if let Check::Refused(r) = check {
-        return PriceAnswer::Refused(r);
-    }
+    filling::fill(vertex_price, 0);
+    filling::fill(edge_price, 0);
+    check?;
     price_doubled(s, row, column, weight, bound, vertex_price, edge_price);
-    PriceAnswer::Priced
+    Ok(())
 }

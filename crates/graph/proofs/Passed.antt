@@ -1,4 +1,5 @@
 -- What the tests on a graph's numbers show once they have passed, and back: what is shown passes them.
+use Rattle.std.specs.Prelude.{Ok}
 use Prim.Native.Nat.{ℕ}
 use mathlib.Core.Path.{◌≡◌}
 use mathlib.Core.Bool.{true}
@@ -12,7 +13,7 @@ use borrow.Author.Tests.{leb-true, le-leb, eqb-true, eq-eqb, not-true}
 use Rattle.integers.specs.Integer.{Within}
 use Rattle.integers.proofs.Order.{order, between-true, le-between}
 use Rattle.graph.specs.Limits.{greatest_weight, greatest_bound}
-use Rattle.graph.specs.Refusal.{Outcome, yields, passing}
+use Rattle.graph.specs.Refusal.{Outcome, passing}
 use Rattle.graph.specs.Graph.{Graph, vertices, row_at, column_at, bound_at, weight_in_range}
 use Rattle.graph.specs.Graph.{joined}
 use Rattle.graph.specs.Subgraph.{mark_at}
@@ -39,7 +40,7 @@ graph_passed g lengths p =
     }
 
 -- Whatever is yielded after the tests, the graph has passed.
-pub yields_passed : {A : Type 0} (g : Graph) (o : Outcome A) (a : A) → graph_lengths g ≡ true → passing (graph_tests g) o ≡ yields a → Passed g
+pub yields_passed : {A : Type 0} (g : Graph) (o : Outcome A) (a : A) → graph_lengths g ≡ true → passing (graph_tests g) o ≡ Ok a → Passed g
 yields_passed g o a lengths e = graph_passed g lengths (passes (graph_tests g) o a e).0
 
 module _ {g : Graph} (P : Passed g) where

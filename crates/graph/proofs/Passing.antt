@@ -1,15 +1,15 @@
 -- Laws of the lowest item that breaks a test, of some item with a property, and of tests in their order.
+use Rattle.std.specs.Prelude.{Option, None, Some, Ok, Err}
 use Prim.Native.Nat.{ℕ, zero, suc, ◌+◌, ◌<◌}
 use mathlib.Core.Path.{◌≡◌, refl, sym, ap, ap₂, ◌∙◌}
 use mathlib.Core.Bool.{Bool, true, false, cond, ◌||◌, or-true, not}
 use mathlib.Core.List.{List, [], ◌∷◌, ◌++◌}
-use mathlib.Core.Option.{Option, none, some}
 use native.Mathlib.Omega.{arith}
 use native.Mathlib.Numerals.{add-one}
 use native.Mathlib.Decide.{ℕ_discrete}
 use borrow.Author.Tests.{not-true, not-false}
 use Rattle.graph.specs.declared.Fault.{Fault}
-use Rattle.graph.specs.Refusal.{Outcome, yields, refuses, Test, once, or_else, lowest, found, passing}
+use Rattle.graph.specs.Refusal.{Outcome, refuses, Test, once, or_else, lowest, found, passing}
 use Rattle.graph.specs.Graph.{some?, every}
 
 -- What cannot be.
@@ -21,20 +21,20 @@ pub up_to : {P : ℕ → Type 0} {n : ℕ} → ((k : ℕ) → k < n → P k) →
 up_to {P} {n} below here k l = elim (ℕ_discrete n k) [ yes e ↦ rw e at here | no e ↦ below k (omega (arith, e)) ]
 
 -- No item breaks the test.
-pub lowest-none : (n : ℕ) (f : ℕ → Bool) → lowest n f ≡ none → (k : ℕ) → k < n → f k ≡ true
+pub lowest-none : (n : ℕ) (f : ℕ → Bool) → lowest n f ≡ None → (k : ℕ) → k < n → f k ≡ true
 lowest-none zero f e k l = absurd (omega arith)
 lowest-none (suc n) f e k l = go (lowest n f) (f n) refl refl e (lowest-none n f)
   where
-    go : (o : Option ℕ) (b : Bool) → lowest n f ≡ o → f n ≡ b → or_else o (cond b none (some n)) ≡ none →
-        (lowest n f ≡ none → (j : ℕ) → j < n → f j ≡ true) → f k ≡ true
-    go none true p q h ih = up_to {P = λ j. f j ≡ true} (ih p) q k l
-    go none false p q h ih = zero_one (cc)
-    go (some j) b p q h ih = zero_one (cc)
+    go : (o : Option ℕ) (b : Bool) → lowest n f ≡ o → f n ≡ b → or_else o (cond b None (Some n)) ≡ None →
+        (lowest n f ≡ None → (j : ℕ) → j < n → f j ≡ true) → f k ≡ true
+    go None true p q h ih = up_to {P = λ j. f j ≡ true} (ih p) q k l
+    go None false p q h ih = zero_one (cc)
+    go (Some j) b p q h ih = zero_one (cc)
 
-pub none_lowest : (n : ℕ) (f : ℕ → Bool) → ((k : ℕ) → k < n → f k ≡ true) → lowest n f ≡ none
+pub none_lowest : (n : ℕ) (f : ℕ → Bool) → ((k : ℕ) → k < n → f k ≡ true) → lowest n f ≡ None
 none_lowest zero f h = refl
 none_lowest (suc n) f h =
-    ap₂ or_else (none_lowest n f (λ k l. h k (omega arith))) (ap (λ (b : Bool). cond {A = Option ℕ} b none (some n)) (h n (omega arith)))
+    ap₂ or_else (none_lowest n f (λ k l. h k (omega arith))) (ap (λ (b : Bool). cond {A = Option ℕ} b None (Some n)) (h n (omega arith)))
 
 -- Item k is the lowest of n that breaks the test f.
 pub record Lowest (n : ℕ) (f : ℕ → Bool) (k : ℕ) : Type 0 where
@@ -42,35 +42,35 @@ pub record Lowest (n : ℕ) (f : ℕ → Bool) (k : ℕ) : Type 0 where
   pub breaks : f k ≡ false
   pub before : (j : ℕ) → j < k → f j ≡ true
 
-pub lowest-some : (n : ℕ) (f : ℕ → Bool) (k : ℕ) → lowest n f ≡ some k → Lowest n f k
+pub lowest-some : (n : ℕ) (f : ℕ → Bool) (k : ℕ) → lowest n f ≡ Some k → Lowest n f k
 lowest-some zero f k e = zero_one (cc)
 lowest-some (suc n) f k e = go (lowest n f) (f n) refl refl e (lowest-some n f k)
   where
-    go : (o : Option ℕ) (b : Bool) → lowest n f ≡ o → f n ≡ b → or_else o (cond b none (some n)) ≡ some k → (lowest n f ≡ some k → Lowest n f k) →
+    go : (o : Option ℕ) (b : Bool) → lowest n f ≡ o → f n ≡ b → or_else o (cond b None (Some n)) ≡ Some k → (lowest n f ≡ Some k → Lowest n f k) →
         Lowest (suc n) f k
-    go none true p q h ih = zero_one (cc)
-    go none false p q h ih =
+    go None true p q h ih = zero_one (cc)
+    go None false p q h ih =
         let s : n ≡ k = cc in
         record { among = omega arith; breaks = ap f (sym s) ∙ q; before = λ j l. lowest-none n f p j (omega arith) }
-    go (some i) b p q h ih =
+    go (Some i) b p q h ih =
         let found_it : Lowest n f k = ih (p ∙ h) in
         record { among = omega (arith, found_it.among); breaks = found_it.breaks; before = found_it.before }
 
-pub some_lowest : (n : ℕ) (f : ℕ → Bool) (k : ℕ) → Lowest n f k → lowest n f ≡ some k
+pub some_lowest : (n : ℕ) (f : ℕ → Bool) (k : ℕ) → Lowest n f k → lowest n f ≡ Some k
 some_lowest zero f k w = absurd (omega (arith, w.among))
 some_lowest (suc n) f k w = elim (ℕ_discrete n k) [
   | yes e ↦
       ap₂ or_else (none_lowest n f (λ j l. w.before j (omega (arith, e))))
-      (ap (λ (b : Bool). cond {A = Option ℕ} b none (some n)) (ap f e ∙ w.breaks)) ∙ ap some e
+      (ap (λ (b : Bool). cond {A = Option ℕ} b None (Some n)) (ap f e ∙ w.breaks)) ∙ ap Some e
   | no e ↦
-      ap (λ o. or_else o (cond (f n) none (some n)))
+      ap (λ o. or_else o (cond (f n) None (Some n)))
       (some_lowest n f k (record { among = omega (arith, w.among, e); breaks = w.breaks; before = w.before }))
 ]
 
 pub lowest-cong : (n : ℕ) (f g : ℕ → Bool) → ((k : ℕ) → k < n → f k ≡ g k) → lowest n f ≡ lowest n g
 lowest-cong zero f g h = refl
 lowest-cong (suc n) f g h =
-    ap₂ or_else (lowest-cong n f g (λ k l. h k (omega arith))) (ap (λ (b : Bool). cond {A = Option ℕ} b none (some n)) (h n (omega arith)))
+    ap₂ or_else (lowest-cong n f g (λ k l. h k (omega arith))) (ap (λ (b : Bool). cond {A = Option ℕ} b None (Some n)) (h n (omega arith)))
 
 -- None has the property.
 pub some_none : (n : ℕ) (f : ℕ → Bool) → some? n f ≡ false → (k : ℕ) → k < n → f k ≡ false
@@ -119,19 +119,19 @@ some_next n f = ap (λ k. some? k f) (add-one n)
 
 module _ {A : Type 0} where
   -- Tests that all pass, and one that refuses.
-  pub passing-yields : (t : Test) (ts : List Test) (o : Outcome A) (a : A) → passing (t ∷ ts) o ≡ yields a →
-      (lowest t.items t.keeps ≡ none) × (passing ts o ≡ yields a)
+  pub passing-yields : (t : Test) (ts : List Test) (o : Outcome A) (a : A) → passing (t ∷ ts) o ≡ Ok a →
+      (lowest t.items t.keeps ≡ None) × (passing ts o ≡ Ok a)
   passing-yields t ts o a e = go (lowest t.items t.keeps) refl e
     where
-      go : (l : Option ℕ) → lowest t.items t.keeps ≡ l → found t l (passing ts o) ≡ yields a →
-          (lowest t.items t.keeps ≡ none) × (passing ts o ≡ yields a)
-      go none p h = (p, h)
-      go (some k) p h = zero_one (cc)
+      go : (l : Option ℕ) → lowest t.items t.keeps ≡ l → found t l (passing ts o) ≡ Ok a →
+          (lowest t.items t.keeps ≡ None) × (passing ts o ≡ Ok a)
+      go None p h = (p, h)
+      go (Some k) p h = zero_one (cc)
 
-  pub passing-none : (t : Test) (ts : List Test) (o : Outcome A) → lowest t.items t.keeps ≡ none → passing (t ∷ ts) o ≡ passing ts o
+  pub passing-none : (t : Test) (ts : List Test) (o : Outcome A) → lowest t.items t.keeps ≡ None → passing (t ∷ ts) o ≡ passing ts o
   passing-none t ts o e = ap (λ l. found t l (passing ts o)) e
 
-  pub passing-found : (t : Test) (ts : List Test) (o : Outcome A) (k : ℕ) → lowest t.items t.keeps ≡ some k →
+  pub passing-found : (t : Test) (ts : List Test) (o : Outcome A) (k : ℕ) → lowest t.items t.keeps ≡ Some k →
       passing (t ∷ ts) o ≡ refuses t.fault (t.place k)
   passing-found t ts o k e = ap (λ l. found t l (passing ts o)) e
 
@@ -146,8 +146,8 @@ module _ {A : Type 0} where
   pub once-refuses : (f : Fault) (b : Bool) (ts : List Test) (o : Outcome A) → b ≡ false → passing (once f b ∷ ts) o ≡ refuses f 0
   once-refuses f b ts o e = ap (λ c. passing (once f c ∷ ts) o) e
 
-  pub once-yields : (f : Fault) (b : Bool) (ts : List Test) (o : Outcome A) (a : A) → passing (once f b ∷ ts) o ≡ yields a →
-      (b ≡ true) × (passing ts o ≡ yields a)
+  pub once-yields : (f : Fault) (b : Bool) (ts : List Test) (o : Outcome A) (a : A) → passing (once f b ∷ ts) o ≡ Ok a →
+      (b ≡ true) × (passing ts o ≡ Ok a)
   once-yields f true ts o a e = (refl, e)
   once-yields f false ts o a e = zero_one (cc)
 
@@ -156,7 +156,7 @@ abbrev pub Passes : List Test → Type 0
 Passes [] = Unit {0}
 Passes (t ∷ ts) = ((k : ℕ) → k < t.items → t.keeps k ≡ true) × Passes ts
 
-pub passes : {A : Type 0} (ts : List Test) (o : Outcome A) (a : A) → passing ts o ≡ yields a → Passes ts × (o ≡ yields a)
+pub passes : {A : Type 0} (ts : List Test) (o : Outcome A) (a : A) → passing ts o ≡ Ok a → Passes ts × (o ≡ Ok a)
 passes [] o a e = (tt, e)
 passes (t ∷ ts) o a e =
     let h = passing-yields t ts o a e in
@@ -177,13 +177,13 @@ passes_join (t ∷ ts) us p q = (p.0, passes_join ts us p.1 q)
 
 -- What a call yields whose first tests have been made: their refusal, or the rest.
 abbrev pub go_on : {A : Type 0} → Outcome (Unit {0}) → Outcome A → Outcome A
-go_on (yields u) rest = rest
-go_on (refuses fault place) rest = refuses fault place
+go_on (Ok u) rest = rest
+go_on (Err refusal) rest = refuses refusal.fault refusal.place
 
-pub passing-on : {A : Type 0} (ts : List Test) (rest : Outcome A) → passing ts rest ≡ go_on (passing ts (yields tt)) rest
+pub passing-on : {A : Type 0} (ts : List Test) (rest : Outcome A) → passing ts rest ≡ go_on (passing ts (Ok tt)) rest
 passing-on [] rest = refl
 passing-on (t ∷ ts) rest = go (lowest t.items t.keeps) (passing-on ts rest)
   where
-    go : (l : Option ℕ) → passing ts rest ≡ go_on (passing ts (yields tt)) rest → found t l (passing ts rest) ≡ go_on (found t l (passing ts (yields tt))) rest
-    go none ih = ih
-    go (some k) ih = refl
+    go : (l : Option ℕ) → passing ts rest ≡ go_on (passing ts (Ok tt)) rest → found t l (passing ts rest) ≡ go_on (found t l (passing ts (Ok tt))) rest
+    go None ih = ih
+    go (Some k) ih = refl

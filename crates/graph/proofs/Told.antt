@@ -1,4 +1,5 @@
 -- What an answer tells determines the outcome: no two faults have the same number.
+use Rattle.std.specs.Prelude.{Ok, Err}
 use Prim.Native.Nat.{ℕ}
 use mathlib.Core.Path.{◌≡◌, refl, sym, ap, ◌∙◌}
 use mathlib.Core.List.{[], ◌∷◌}
@@ -7,7 +8,7 @@ use Rattle.graph.specs.declared.Fault.{Fault}
 use Rattle.graph.specs.declared.Fault.TheVariants.{TextLength, Header, SizeLine, Sizes, LaterLine, Ends, Weight, SameEnds}
 use Rattle.graph.specs.declared.Fault.TheVariants.{LentLength, Bound, Mark, Degree, Price, OddSet, Uncovered, NotBipartite, Disagreement, WrongIndex}
 use Rattle.graph.specs.declared.Fault.TheVariants.{BoundNotOne, AssignmentLine, Sources, NotDoubled}
-use Rattle.graph.specs.Refusal.{number_of, Outcome, yields, refuses, Told, tells, refused_with, told}
+use Rattle.graph.specs.Refusal.{number_of, Outcome, refuses, Told, tells, refused_with, told}
 
 -- The faults by their numbers. No fault has the number 0, 22 or 23.
 abbrev fault_with : ℕ → Fault
@@ -43,12 +44,12 @@ fault_back Sources = refl
 fault_back NotDoubled = refl
 
 abbrev outcome_of : {A : Type 0} → Told A → Outcome A
-outcome_of (tells a) = yields a
+outcome_of (tells a) = Ok a
 outcome_of (refused_with number place) = refuses (fault_with number) place
 
 outcome_back : {A : Type 0} (o : Outcome A) → outcome_of (told o) ≡ o
-outcome_back (yields a) = refl
-outcome_back (refuses fault place) = ap (λ (f : Fault). refuses f place) (fault_back fault)
+outcome_back (Ok a) = refl
+outcome_back (Err refusal) = ap (λ (f : Fault). refuses f refusal.place) (fault_back refusal.fault)
 
 pub told_same : {A : Type 0} (o W : Outcome A) → told o ≡ told W → o ≡ W
 told_same o W e = sym (outcome_back o) ∙ ap outcome_of e ∙ outcome_back W

@@ -1,7 +1,7 @@
 -- What a call yields: a result, or a refusal with its place; and the order in which tests refuse.
-use Rattle.std.specs.Prelude.{ℕ, zero, suc, ◌-◌, Bool, cond, List, [], ◌∷◌, ◌++◌, length, replicate}
-use Rattle.std.proofs.Math.Option.{Option, none, some}
+use Rattle.std.specs.Prelude.{ℕ, zero, suc, ◌-◌, Bool, cond, List, [], ◌∷◌, ◌++◌, length, replicate, Option, None, Some, Result, Ok, Err}
 use Rattle.graph.specs.declared.Fault.{Fault}
+use Rattle.graph.specs.declared.Refusal.{Refusal}
 use Rattle.graph.specs.declared.Fault.TheVariants.{TextLength, Header, SizeLine, Sizes, LaterLine, Ends, Weight, SameEnds}
 use Rattle.graph.specs.declared.Fault.TheVariants.{LentLength, Bound, Mark, Degree, Price, OddSet, Uncovered, NotBipartite, Disagreement, WrongIndex}
 use Rattle.graph.specs.declared.Fault.TheVariants.{BoundNotOne, AssignmentLine, Sources, NotDoubled}
@@ -54,9 +54,11 @@ number_of Sources = 21
 number_of NotDoubled = 24
 
 -- What a call yields: a result, or a refusal: a fault and its place.
-pub data Outcome (A : Type 0) : Type 0 where
-  yields : A → Outcome A
-  refuses : Fault → ℕ → Outcome A
+abbrev pub Outcome : Type 0 → Type 0
+Outcome A = Result A Refusal
+
+abbrev pub refuses : {A : Type 0} → Fault → ℕ → Outcome A
+refuses fault place = Err (record { fault = fault; place = place })
 
 -- What an answer tells of it: the result, or the refusal's number of the table and its place.
 pub data Told (A : Type 0) : Type 0 where
@@ -64,8 +66,8 @@ pub data Told (A : Type 0) : Type 0 where
   refused_with : ℕ → ℕ → Told A
 
 abbrev pub told : {A : Type 0} → Outcome A → Told A
-told (yields a) = tells a
-told (refuses fault place) = refused_with (number_of fault) place
+told (Ok a) = tells a
+told (Err refusal) = refused_with (number_of refusal.fault) refusal.place
 
 -- A test of a call: the fault it refuses with, over how many items it is tested, which place an item has, and what an accepted item keeps.
 pub record Test : Type 0 where
@@ -83,17 +85,17 @@ abbrev pub each : Fault → ℕ → (ℕ → Bool) → Test
 each f n keeps = record { fault = f; items = n; place = suc; keeps = keeps }
 
 abbrev pub or_else : Option ℕ → Option ℕ → Option ℕ
-or_else none b = b
-or_else (some k) b = some k
+or_else None b = b
+or_else (Some k) b = Some k
 
 -- The lowest of the items 0 .. n - 1 that does not keep the test, if there is one.
 abbrev pub lowest : ℕ → (ℕ → Bool) → Option ℕ
-lowest zero keeps = none
-lowest (suc n) keeps = or_else (lowest n keeps) (cond (keeps n) none (some n))
+lowest zero keeps = None
+lowest (suc n) keeps = or_else (lowest n keeps) (cond (keeps n) None (Some n))
 
 abbrev pub found : {A : Type 0} → Test → Option ℕ → Outcome A → Outcome A
-found t none rest = rest
-found t (some k) rest = refuses t.fault (t.place k)
+found t None rest = rest
+found t (Some k) rest = refuses t.fault (t.place k)
 
 -- The tests in their order, each over all items before the next; the lowest place is reported. Where none refuses, the rest is yielded.
 abbrev pub passing : {A : Type 0} → List Test → Outcome A → Outcome A
@@ -102,13 +104,13 @@ passing (t ∷ ts) rest = found t (lowest t.items t.keeps) (passing ts rest)
 
 -- What is reported of a result; a refusal stays.
 abbrev pub reported : {A B : Type 0} → (A → B) → Outcome A → Outcome B
-reported f (yields a) = yields (f a)
-reported f (refuses fault place) = refuses fault place
+reported f (Ok a) = Ok (f a)
+reported f (Err refusal) = refuses refusal.fault refusal.place
 
 -- What a lent output of n numbers holds afterwards: the result's numbers and then z, which is 0, or only z after a refusal.
 abbrev pub filled : {N : Type 0} → ℕ → N → List N → List N
 filled n z xs = xs ++ replicate (n - length xs) z
 
 abbrev pub output : {A N : Type 0} → ℕ → N → (A → List N) → Outcome A → List N
-output n z f (yields a) = filled n z (f a)
-output n z f (refuses fault place) = replicate n z
+output n z f (Ok a) = filled n z (f a)
+output n z f (Err refusal) = replicate n z

@@ -10,14 +10,14 @@ ghost use Rattle.graph.specs.Passed.{Sound, MarksHold};
 ghost use Rattle.graph.specs.Degrees.{Grown};
 
 // The sort of sheet: two-sided, from row vertices to column vertices, or one-sided.
-#[derive(Clone, Copy)]
+#[derive(Clone, Copy, Debug, PartialEq, Eq)]
 pub enum Kind {
     Bipartite,
     General,
 }
 
 // What tells a graph but for its edges: its kind, and how many rows, columns and edges it has.
-#[derive(Clone, Copy)]
+#[derive(Clone, Copy, Debug, PartialEq, Eq)]
 pub struct Shape {
     pub kind: Kind,
     pub rows: u32,
@@ -64,15 +64,8 @@ pub const WORKSPACE_NUMBERS: usize = 4096;
 
 pub const MOST_INDEX: usize = MOST_VERTICES + 1 + 2 * MOST_EDGES;
 
-// The answer of the two calls on an index: what is lent holds the graph's index, or a refusal.
-#[derive(Clone, Copy)]
-pub enum IndexAnswer {
-    Indexed,
-    Refused(Refusal),
-}
-
 // What is refused, in the order of the refusal table.
-#[derive(Clone, Copy)]
+#[derive(Clone, Copy, Debug, PartialEq, Eq)]
 pub enum Fault {
     TextLength,
     Header,
@@ -99,80 +92,82 @@ pub enum Fault {
 }
 
 // A refusal: what is refused, and its place.
-#[derive(Clone, Copy)]
+#[derive(Clone, Copy, Debug, PartialEq, Eq)]
 pub struct Refusal {
     pub fault: Fault,
     pub place: u64,
 }
 
 // The number of a fault in the refusal table.
-pub fn number(fault: Fault) -> u32
-    ensures { result ≡ number_of fault }
-{
-    match fault {
-        Fault::TextLength => 1,
-        Fault::Header => 2,
-        Fault::SizeLine => 3,
-        Fault::Sizes => 4,
-        Fault::LaterLine => 5,
-        Fault::Ends => 6,
-        Fault::Weight => 7,
-        Fault::SameEnds => 8,
-        Fault::LentLength => 9,
-        Fault::Bound => 10,
-        Fault::Mark => 11,
-        Fault::Degree => 12,
-        Fault::Price => 13,
-        Fault::OddSet => 14,
-        Fault::Uncovered => 15,
-        Fault::NotBipartite => 16,
-        Fault::Disagreement => 17,
-        Fault::WrongIndex => 18,
-        Fault::BoundNotOne => 19,
-        Fault::AssignmentLine => 20,
-        Fault::Sources => 21,
-        Fault::NotDoubled => 24,
+impl From<Fault> for u32 {
+    ghost from_gives = { λ fault number. number ≡ number_of fault };
+
+    fn from(fault: Fault) -> u32 {
+        match fault {
+            Fault::TextLength => 1,
+            Fault::Header => 2,
+            Fault::SizeLine => 3,
+            Fault::Sizes => 4,
+            Fault::LaterLine => 5,
+            Fault::Ends => 6,
+            Fault::Weight => 7,
+            Fault::SameEnds => 8,
+            Fault::LentLength => 9,
+            Fault::Bound => 10,
+            Fault::Mark => 11,
+            Fault::Degree => 12,
+            Fault::Price => 13,
+            Fault::OddSet => 14,
+            Fault::Uncovered => 15,
+            Fault::NotBipartite => 16,
+            Fault::Disagreement => 17,
+            Fault::WrongIndex => 18,
+            Fault::BoundNotOne => 19,
+            Fault::AssignmentLine => 20,
+            Fault::Sources => 21,
+            Fault::NotDoubled => 24,
+        }
     }
 }
 
 // The two ends of an edge, as vertices.
-#[derive(Clone, Copy)]
+#[derive(Clone, Copy, Debug, PartialEq, Eq)]
 pub struct Ends {
     pub first: usize,
     pub second: usize,
 }
 
-// n, the number of vertices.
-pub fn vertex_count(s: Shape) -> u64
-    ensures { result ≡ vertices_in s }
-{
-    let kind = s.kind;
-    match kind {
-        Kind::Bipartite => s.rows as u64 + s.columns as u64,
-        Kind::General => s.rows as u64,
+impl Shape {
+    // n, the number of vertices.
+    pub fn vertex_count(self) -> u64
+        ensures { result ≡ vertices_in self }
+    {
+        match self.kind {
+            Kind::Bipartite => self.rows as u64 + self.columns as u64,
+            Kind::General => self.rows as u64,
+        }
     }
-}
 
-// The vertex of a column.
-fn column_vertex(s: Shape, c: u32) -> usize
-    requires { 1 ≤ c }
-    ensures { result ≡ column_vertex s.kind s.rows c }
-{
-    let kind = s.kind;
-    match kind {
-        Kind::Bipartite => s.rows as usize + (c - 1) as usize,
-        Kind::General => (c - 1) as usize,
+    // The vertex of a column.
+    fn column_vertex(self, c: u32) -> usize
+        requires { 1 ≤ c }
+        ensures { result ≡ column_vertex self.kind self.rows c }
+    {
+        match self.kind {
+            Kind::Bipartite => self.rows as usize + (c - 1) as usize,
+            Kind::General => (c - 1) as usize,
+        }
     }
-}
 
-// The ends of an edge in row r and column c.
-pub fn ends_of(s: Shape, r: u32, c: u32) -> Ends
-    requires { (1 ≤ r) × (1 ≤ c) }
-    ensures { (result.first ≡ r - 1) × (result.second ≡ column_vertex s.kind s.rows c) }
-{
-    Ends {
-        first: (r - 1) as usize,
-        second: column_vertex(s, c),
+    // The ends of an edge in row r and column c.
+    pub fn ends_of(self, r: u32, c: u32) -> Ends
+        requires { (1 ≤ r) × (1 ≤ c) }
+        ensures { (result.first ≡ r - 1) × (result.second ≡ column_vertex self.kind self.rows c) }
+    {
+        Ends {
+            first: (r - 1) as usize,
+            second: self.column_vertex(c),
+        }
     }
 }
 
@@ -195,10 +190,8 @@ pub fn degrees(s: Shape, row: &[u32], column: &[u32], chosen: &[u8]) -> [u32; MO
     ensures { (v : ℕ) → v < most_vertices → get_or result v 0 ≡ degree (graph_of s row.now column.now []) chosen.now v }
 {
     let mut degree = [0u32; MOST_VERTICES];
-    let mut e = 0;
-    while e < row.len() {
-        add_edge(&mut degree, ends_of(s, row[e], column[e]), chosen[e]);
-        e += 1;
+    for e in 0..row.len() {
+        add_edge(&mut degree, s.ends_of(row[e], column[e]), chosen[e]);
     }
     degree
 }

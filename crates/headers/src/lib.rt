@@ -4,20 +4,16 @@
 ghost use Rattle.std.specs.Prelude.{◌≡◌, [], ◌∷◌};
 ghost use Rattle.layout.specs.Text.{header};
 ghost use Rattle.keywords.specs.Keywords.{within, follow};
-ghost use Rattle.headers.specs.Headers.{kind_says, kind_told};
+ghost use Rattle.headers.specs.Headers.{kind_told};
 
 use graph::Kind;
-use keywords::Key;
 
 // No word comes any more.
-fn ended(line: &[u8], from: Key) -> bool
+fn ended(line: &[u8], from: Option<usize>) -> bool
     requires { within line.now from }
     ensures { result ≡ follow line.now from [] }
 {
-    let Key::After(at) = from else {
-        return false;
-    };
-    text::no_words(line, at)
+    from.is_some_and(|at| text::no_words(line, at))
 }
 
 // A header line: the first word begins the line and keeps its case, and the words a, b, c and d follow in either case.
@@ -35,21 +31,14 @@ pub fn is_header(line: &[u8], a: &[u8], b: &[u8], c: &[u8], d: &[u8]) -> bool
     ended(line, fifth)
 }
 
-// The kind of graph that a header line tells, if it is the header of a text of coordinates with a field.
-#[derive(Clone, Copy)]
-pub enum HeaderKind {
-    Is(Kind),
-    Not,
-}
-
-pub fn header_kind(line: &[u8], field: &[u8]) -> HeaderKind
-    ensures { kind_says result ≡ kind_told field.now line.now }
+pub fn header_kind(line: &[u8], field: &[u8]) -> Option<Kind>
+    ensures { result ≡ kind_told field.now line.now }
 {
     if is_header(line, b"matrix", b"coordinate", field, b"general") {
-        return HeaderKind::Is(Kind::Bipartite);
+        return Some(Kind::Bipartite);
     }
     if is_header(line, b"matrix", b"coordinate", field, b"symmetric") {
-        return HeaderKind::Is(Kind::General);
+        return Some(Kind::General);
     }
-    HeaderKind::Not
+    None
 }

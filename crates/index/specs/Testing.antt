@@ -1,6 +1,5 @@
 -- What a lent index shows, edge by edge.
-use Rattle.std.specs.Prelude.{ℕ, suc, ◌+◌, ◌<◌, ◌≡◌, true, List, length, get_or}
-use Rattle.std.proofs.Math.Option.{Option}
+use Rattle.std.specs.Prelude.{ℕ, suc, ◌+◌, ◌<◌, ◌≡◌, true, List, length, get_or, Option}
 use Rattle.graph.specs.Limits.{most_vertices}
 use Rattle.graph.specs.Refusal.{lowest}
 use Rattle.graph.specs.Graph.{Graph, vertices}

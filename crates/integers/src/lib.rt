@@ -3,21 +3,7 @@
 
 ghost use Rattle.std.specs.Prelude.{◌≡◌, cond, ◌&&◌, ◌||◌, ◌+◌, ◌^◌, ◌<◌, ◌≤◌, length, get_or, set, pos, ◌+ℤ◌, ◌-ℤ◌, ◌*ℤ◌, ◌≤ℤ◌};
 ghost use Rattle.std.specs.Int.Signed.{le_z};
-ghost use Rattle.integers.specs.Integer.{up, dn, Within, between};
-
-// A number of 32 bits as one of 64.
-pub fn widen(x: i32) -> i64
-    ensures { (result ≡ x) × Within (2 ^ 31) result }
-{
-    x as i64
-}
-
-// A natural number of 32 bits as a signed one of 64.
-pub fn whole(x: u32) -> i64
-    ensures { (result ≡ pos x) × Within (2 ^ 32) result }
-{
-    x as i64
-}
+ghost use Rattle.integers.specs.Integer.{up, dn, Within};
 
 // The sum of two numbers that are not too large.
 pub fn add(a: i64, b: i64) -> i64
@@ -40,7 +26,7 @@ pub fn scale(k: u32, x: i64) -> i64
     requires { Within (2 ^ 62) (pos k *ℤ x) }
     ensures { result ≡ pos k *ℤ x }
 {
-    k as i64 * x
+    i64::from(k) * x
 }
 
 // A number where the mark is 1, and 0 where it is 0.
@@ -58,13 +44,6 @@ pub fn at_most(a: i64, b: i64) -> bool
     a <= b
 }
 
-// Whether x is at least low and at most high.
-pub fn in_range(x: i32, low: i32, high: i32) -> bool
-    ensures { result ≡ between low high x }
-{
-    low <= x && x <= high
-}
-
 // A number that is not negative, as a natural number.
 pub fn natural(x: i32) -> u32
     requires { pos 0 ≤ℤ x }
@@ -78,14 +57,14 @@ pub fn element(w: &[i32], p: usize) -> i64
     requires { p < length w.now }
     ensures { (result ≡ get_or w.now p (pos 0)) × Within (2 ^ 31) result }
 {
-    widen(w[p])
+    i64::from(w[p])
 }
 
 // A number that is not negative, and 0 for one that is.
 pub fn natural_part(x: i32) -> u32
     ensures { result ≡ up x }
 {
-    if x < 0 { 0 } else { natural(x) }
+    x.max(0) as u32
 }
 
 // The element of w at p, and 0 where it is negative.
@@ -96,18 +75,18 @@ pub fn natural_at(w: &[i32], p: usize) -> u32
     natural_part(w[p])
 }
 
-// Whether two tests hold that have both been made.
+// Whether both tests hold.
 pub fn both(a: bool, b: bool) -> bool
     ensures { result ≡ (a && b) }
 {
-    if a { b } else { false }
+    a && b
 }
 
 // Whether one of two tests holds.
 pub fn either(a: bool, b: bool) -> bool
     ensures { result ≡ (a || b) }
 {
-    if a { true } else { b }
+    a || b
 }
 
 // One of two numbers, by a test.

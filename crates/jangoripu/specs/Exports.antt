@@ -1,6 +1,6 @@
 -- What the exported calls return, tell and leave.
-use Rattle.std.specs.Prelude.{ℕ, ◌≡◌, List, [], ◌∷◌, ℤ, pos, length, replicate}
-use Rattle.graph.specs.Refusal.{Outcome, yields, refuses, reported, output}
+use Rattle.std.specs.Prelude.{ℕ, ◌≡◌, List, [], ◌∷◌, ℤ, pos, length, replicate, Ok, Err}
+use Rattle.graph.specs.Refusal.{Outcome, refuses, reported, output}
 use Rattle.graph.specs.Graph.{Graph, shape_of}
 use Rattle.layout.specs.AssignmentText.{unit_bounds}
 use Rattle.telling.specs.Telling.{number_in, place_in, shape_told, length_told}
@@ -10,8 +10,8 @@ use Rattle.dual.specs.PriceGeneral.{price_general, GeneralLeft}
 
 -- What the measuring call tells: weight, total, slacks of vertices, odd sets, edges and cover, and gap.
 abbrev pub measures_told : Outcome Measures → List ℤ
-measures_told (yields m) = m.weight ∷ m.total ∷ m.vertices ∷ m.sets ∷ m.edges ∷ m.cover ∷ m.gap ∷ []
-measures_told (refuses fault place) = replicate 7 (pos 0)
+measures_told (Ok m) = m.weight ∷ m.total ∷ m.vertices ∷ m.sets ∷ m.edges ∷ m.cover ∷ m.gap ∷ []
+measures_told (Err refusal) = replicate 7 (pos 0)
 
 -- A call that yields W has read a graph: what it returns and tells, and what its three outputs, of a, b and c numbers, hold.
 pub record GraphRead (W : Outcome Graph) (a b c r : ℕ) (answer row column : List ℕ) (weight : List ℤ) : Type 0 where

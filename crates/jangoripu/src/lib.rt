@@ -18,10 +18,6 @@ ghost use Rattle.dual.specs.Solve.{lent_of, outputs_of};
 ghost use Rattle.telling.specs.Telling.{shape_given, numbers_of};
 ghost use Rattle.jangoripu.specs.Exports.{GraphRead, AssignmentRead, Filled, Tested, TextWritten, GraphSolved, GeneralPriced, Measured};
 
-use dual::{MeasureAnswer, PriceAnswer, SolveAnswer};
-use graph::IndexAnswer;
-use layout::{NumbersAnswer, SubgraphAnswer};
-
 // Reads a graph (sheet). The answer tells the place, and kind, rows, columns and the number of edges.
 #[unsafe(no_mangle)]
 pub extern "C" fn jangoripu_read_graph(
@@ -49,13 +45,8 @@ pub extern "C" fn jangoripu_read_numbers(
     ensures { Filled ℤ (read_numbers (numbers_of prices) count (length out.old) text.now) (length out.old) (pos 0) result place.new out.new }
 {
     let what = telling::numbers_of(prices);
-    match number_reader::read_numbers(text, what, count, out) {
-        NumbersAnswer::Read => {
-            *place = 0;
-            0
-        }
-        NumbersAnswer::Refused(refusal) => telling::tell(refusal, place),
-    }
+    let told = number_reader::read_numbers(text, what, count, out);
+    telling::tell(told, place)
 }
 
 // Reads a subgraph (plan) of a graph.
@@ -75,13 +66,8 @@ pub extern "C" fn jangoripu_read_subgraph(
     ensures { Filled ℕ (read_subgraph (graph_of (shape_given general rows columns edges) row.now column.now weight.now) (length chosen.old) text.now) (length chosen.old) 0 result place.new chosen.new }
 {
     let s = telling::shape_given(general, rows, columns, edges);
-    match subgraph_reader::read_subgraph(text, s, row, column, weight, chosen) {
-        SubgraphAnswer::Read => {
-            *place = 0;
-            0
-        }
-        SubgraphAnswer::Refused(refusal) => telling::tell(refusal, place),
-    }
+    let told = subgraph_reader::read_subgraph(text, s, row, column, weight, chosen);
+    telling::tell(told, place)
 }
 
 // Writes a subgraph (plan) as a text. The answer tells the place, and the text's length.
@@ -178,13 +164,8 @@ pub extern "C" fn jangoripu_build_index(
     ensures { Filled ℕ (build_index (graph_of (shape_given general rows columns edges) row.now column.now weight.now) (length index.old)) (length index.old) 0 result place.new index.new }
 {
     let s = telling::shape_given(general, rows, columns, edges);
-    match index_builder::build_index(s, row, column, weight, index) {
-        IndexAnswer::Indexed => {
-            *place = 0;
-            0
-        }
-        IndexAnswer::Refused(refusal) => telling::tell(refusal, place),
-    }
+    let told = index_builder::build_index(s, row, column, weight, index);
+    telling::tell(told, place)
 }
 
 // Tests whether a lent index is the graph's.
@@ -203,13 +184,8 @@ pub extern "C" fn jangoripu_test_index(
     ensures { Tested (test_index (graph_of (shape_given general rows columns edges) row.now column.now weight.now) index.now) result place.new }
 {
     let s = telling::shape_given(general, rows, columns, edges);
-    match index::test_index(s, row, column, weight, index) {
-        IndexAnswer::Indexed => {
-            *place = 0;
-            0
-        }
-        IndexAnswer::Refused(refusal) => telling::tell(refusal, place),
-    }
+    let told = index::test_index(s, row, column, weight, index);
+    telling::tell(told, place)
 }
 
 // Solves a bipartite graph, whose index is lent: an optimal subgraph (a plan of largest merit), and prices that prove it.
@@ -233,7 +209,7 @@ pub extern "C" fn jangoripu_solve(
     ensures { GraphSolved (graph_of (shape_given general rows columns edges) row.now column.now weight.now) bound.now index.now (lent_of (length chosen.old) (length vertex_price.old) (length edge_price.old) (length workspace.old)) result place.new (outputs_of chosen.new vertex_price.new edge_price.new) workspace.new }
 {
     let s = telling::shape_given(general, rows, columns, edges);
-    match solver::solve(
+    let told = solver::solve(
         s,
         row,
         column,
@@ -244,13 +220,8 @@ pub extern "C" fn jangoripu_solve(
         vertex_price,
         edge_price,
         workspace,
-    ) {
-        SolveAnswer::Solved => {
-            *place = 0;
-            0
-        }
-        SolveAnswer::Refused(refusal) => telling::tell(refusal, place),
-    }
+    );
+    telling::tell(told, place)
 }
 
 // Prices a general graph (a tank sheet): prices of vertices and edges that cover every edge, from a solution of the doubled graph.
@@ -271,13 +242,16 @@ pub extern "C" fn jangoripu_price_general(
     ensures { GeneralPriced (graph_of (shape_given general rows columns edges) row.now column.now weight.now) bound.now (length vertex_price.old) (length edge_price.old) result place.new vertex_price.new edge_price.new }
 {
     let s = telling::shape_given(general, rows, columns, edges);
-    match general_pricer::price_general(s, row, column, weight, bound, vertex_price, edge_price) {
-        PriceAnswer::Priced => {
-            *place = 0;
-            0
-        }
-        PriceAnswer::Refused(refusal) => telling::tell(refusal, place),
-    }
+    let told = general_pricer::price_general(
+        s,
+        row,
+        column,
+        weight,
+        bound,
+        vertex_price,
+        edge_price,
+    );
+    telling::tell(told, place)
 }
 
 // Measures a subgraph (plan) against prices.
@@ -318,16 +292,15 @@ pub extern "C" fn jangoripu_measure(
         set_vertices,
         set_edges,
     ) {
-        MeasureAnswer::Measured(m) => {
+        Ok(m) => {
             *numbers = [
                 m.weight, m.total, m.vertices, m.sets, m.edges, m.cover, m.gap,
             ];
-            *place = 0;
-            0
+            telling::tell(Ok(()), place)
         }
-        MeasureAnswer::Refused(refusal) => {
-            *numbers = [0, 0, 0, 0, 0, 0, 0];
-            telling::tell(refusal, place)
+        Err(refusal) => {
+            *numbers = [0; 7];
+            telling::tell(Err(refusal), place)
         }
     }
 }

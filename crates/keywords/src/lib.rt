@@ -1,104 +1,60 @@
 // The words of a line that are fixed: a first word, whose case is kept, and words in either case.
 #![tactic(auto)]
 
-ghost use Rattle.std.specs.Prelude.{◌≡◌, map};
-ghost use Rattle.layout.specs.Text.{lower, same, begins};
-ghost use Rattle.keywords.specs.Keywords.{within, KeyTaken, FirstWord};
-
-// A to Z as a to z, and every other byte as it is.
-fn to_lower(x: u8) -> u8
-    ensures { result ≡ lower x }
-{
-    if x < 65 {
-        return x;
-    }
-    if x > 90 {
-        return x;
-    }
-    x + 32
-}
+ghost use Rattle.std.specs.Prelude.{◌≡◌, ◌≤◌, [], length, drop, map, MatchOption};
+ghost use Rattle.layout.specs.Text.{words, lower, same, begins};
+ghost use Rattle.keywords.specs.Keywords.{within, WordAt, KeyTaken, FirstWord};
 
 // The word w is k.
 pub fn same_word(w: &[u8], k: &[u8]) -> bool
     ensures { result ≡ same w.now k.now }
 {
-    if w.len() != k.len() {
-        return false;
-    }
-    let mut i = 0;
-    while i < w.len() {
-        if w[i] != k[i] {
-            return false;
-        }
-        i += 1;
-    }
-    true
+    w == k
 }
 
 // The word w, its case folded, is k.
 pub fn same_folded(w: &[u8], k: &[u8]) -> bool
     ensures { result ≡ same (map lower w.now) k.now }
 {
-    if w.len() != k.len() {
-        return false;
-    }
-    let mut i = 0;
-    while i < w.len() {
-        if to_lower(w[i]) != k[i] {
-            return false;
-        }
-        i += 1;
-    }
-    true
+    w.len() == k.len() && w.iter().zip(k).all(|(x, y)| x.to_ascii_lowercase() == *y)
 }
 
-// How far the words that are looked for are found in a line: up to a place, or not.
-#[derive(Clone, Copy)]
-pub enum Key {
-    After(usize),
-    Not,
+// The next word from a place on, and the place after it.
+fn next_word(line: &[u8], at: usize) -> Option<(&[u8], usize)>
+    requires { at ≤ length line.now }
+    ensures { MatchOption result
+        (words (drop at line.now) ≡ [])
+        (λ found. WordAt line.now at found.0.now found.1) }
+{
+    let start = text::skip_blanks(line, at);
+    let w = text::word(line, start);
+    if w.is_empty() {
+        return None;
+    }
+    Some((w, start + w.len()))
 }
 
 // The word k, its case folded, comes next.
-pub fn keyword(line: &[u8], from: Key, k: &[u8]) -> Key
+pub fn keyword(line: &[u8], from: Option<usize>, k: &[u8]) -> Option<usize>
     requires { within line.now from }
     ensures { KeyTaken line.now from k.now result }
 {
-    let Key::After(at) = from else {
-        return Key::Not;
-    };
-    let start = text::skip_blanks(line, at);
-    let w = text::word(line, start);
-    if w.len() == 0 {
-        return Key::Not;
-    }
-    if !same_folded(w, k) {
-        return Key::Not;
-    }
-    Key::After(start + w.len())
+    let at = from?;
+    let (w, end) = next_word(line, at)?;
+    same_folded(w, k).then_some(end)
 }
 
 // The first word of a line is k, its case kept.
-pub fn first_word(line: &[u8], k: &[u8]) -> Key
+pub fn first_word(line: &[u8], k: &[u8]) -> Option<usize>
     ensures { FirstWord line.now k.now result }
 {
-    let start = text::skip_blanks(line, 0);
-    let w = text::word(line, start);
-    if w.len() == 0 {
-        return Key::Not;
-    }
-    if !same_word(w, k) {
-        return Key::Not;
-    }
-    Key::After(start + w.len())
+    let (w, end) = next_word(line, 0)?;
+    same_word(w, k).then_some(end)
 }
 
 // The first word begins the line.
 pub fn word_first(line: &[u8]) -> bool
     ensures { result ≡ begins line.now }
 {
-    if line.len() == 0 {
-        return false;
-    }
-    !text::is_blank(line[0])
+    !line.is_empty() && !text::is_blank(line[0])
 }

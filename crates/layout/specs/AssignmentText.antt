@@ -1,13 +1,12 @@
 -- The DIMACS assignment text (document 02, U7): how a graph (sheet) whose bounds (limits) are all 1 is written, and what the reader of such a text yields.
 -- Its nodes are the vertices: the row vertices (dams) are the source nodes, 1 to rows, and column j (sire j) is node rows + j. An arc is an edge (pair), and
 -- its cost is the edge's weight (merit) negated.
-use Rattle.std.specs.Prelude.{ℕ, zero, suc, ◌+◌, ◌-◌, Bool, cond, ◌&&◌, ◌||◌, List, [], ◌∷◌, ◌++◌, ltb, eqb, ℤ, pos, neg_ℤ, length, replicate}
-use Rattle.std.proofs.Math.Option.{Option, none, some, map}
+use Rattle.std.specs.Prelude.{ℕ, zero, suc, ◌+◌, ◌-◌, Bool, cond, ◌&&◌, ◌||◌, List, [], ◌∷◌, ◌++◌, ltb, eqb, ℤ, pos, neg_ℤ, length, replicate, Option, None, Some, option_map, Ok, Err}
 use Rattle.graph.specs.declared.Kind.TheVariants.{Bipartite}
 use Rattle.graph.specs.declared.Shape.{Shape}
 use Rattle.graph.specs.declared.Fault.TheVariants.{TextLength, Sizes, LentLength, AssignmentLine, Sources}
 use Rattle.graph.specs.Limits.{most_vertices, most_edges, longest_text}
-use Rattle.graph.specs.Refusal.{Outcome, yields, refuses, Test, once, passing}
+use Rattle.graph.specs.Refusal.{Outcome, refuses, Test, once, passing}
 use Rattle.graph.specs.Graph.{Graph, vertices, row_at, column_at, weight_at, shape_in_range}
 use Rattle.graph.specs.Tests.{one_test, bipartite_tests}
 use Rattle.layout.specs.declared.Rules.TheVariants.{New}
@@ -49,7 +48,7 @@ abbrev pub assignment_tests : Graph → List ℤ → ℕ → List Test
 assignment_tests g bound n = bipartite_tests g bound (eqb n longest_text) ++ (one_test g bound ∷ [])
 
 unfoldable pub write_assignment : Graph → List ℤ → ℕ → Outcome (List ℕ)
-write_assignment g bound n = passing (assignment_tests g bound n) (yields (assignment_text g))
+write_assignment g bound n = passing (assignment_tests g bound n) (Ok (assignment_text g))
 
 -- ---- what a line is
 
@@ -65,26 +64,26 @@ pub data Entry : Type 0 where
 
 -- The words after `p`, after `n` and after `a`; no entry where they are malformed.
 abbrev pub problem_sizes : List (List ℕ) → Option (ℕ × ℕ)
-problem_sizes [] = none
-problem_sizes (w ∷ ws) = cond (same w (bytes "asn")) (two_words (natural New) (natural New) ws) none
+problem_sizes [] = None
+problem_sizes (w ∷ ws) = cond (same w (bytes "asn")) (two_words (natural New) (natural New) ws) None
 
 abbrev pub problem_of : List (List ℕ) → Option Entry
-problem_of ws = map (λ p. problem p.0 p.1) (problem_sizes ws)
+problem_of ws = option_map (λ p. problem p.0 p.1) (problem_sizes ws)
 
 abbrev pub source_of : List (List ℕ) → Option Entry
-source_of ws = map source (one_word (natural New) ws)
+source_of ws = option_map source (one_word (natural New) ws)
 
 abbrev pub arc_of : List (List ℕ) → Option Entry
-arc_of ws = map (λ a. arc a.0 a.1 a.2) (three_words (natural New) (natural New) (integer New) ws)
+arc_of ws = option_map (λ a. arc a.0 a.1 a.2) (three_words (natural New) (natural New) (integer New) ws)
 
 -- The first word is the letter, which keeps its case and begins the line.
 abbrev pub entry_words : List (List ℕ) → Option Entry
-entry_words [] = none
+entry_words [] = None
 entry_words (w ∷ ws) =
-    cond (same w (bytes "p")) (problem_of ws) (cond (same w (bytes "n")) (source_of ws) (cond (same w (bytes "a")) (arc_of ws) none))
+    cond (same w (bytes "p")) (problem_of ws) (cond (same w (bytes "n")) (source_of ws) (cond (same w (bytes "a")) (arc_of ws) None))
 
 unfoldable pub entry_on : List ℕ → Option Entry
-entry_on l = cond (begins l) (entry_words (words l)) none
+entry_on l = cond (begins l) (entry_words (words l)) None
 
 -- ---- reading the lines from the top
 
@@ -116,22 +115,22 @@ more_arcs g = ltb (length g.row) g.edges
 -- An arc on line k after the edges of g, tested as an edge of a sheet is: ends (6), weight (7), the ends of an earlier edge (8). A target that is a source
 -- node, or 0, gives column 0, which is out of range.
 abbrev pub placed : ℕ → Step Graph → Outcome Progress
-placed k (goes g) = yields (joining g)
+placed k (goes g) = Ok (joining g)
 placed k (stops f) = refuses f k
 
 abbrev pub with_arc : ℕ → Graph → ℕ → ℕ → ℤ → Outcome Progress
-with_arc k g a b z = placed k (graph_edge g (some (a, b - g.rows, neg_ℤ z)))
+with_arc k g a b z = placed k (graph_edge g (Some (a, b - g.rows, neg_ℤ z)))
 
 -- What each entry does on line k: one out of turn, or surplus, is refused (20).
 abbrev pub on_problem : ℕ → Progress → ℕ → ℕ → Outcome Progress
-on_problem k start nodes arcs = yields (naming (record { line = k; nodes = nodes; arcs = arcs }) 0)
+on_problem k start nodes arcs = Ok (naming (record { line = k; nodes = nodes; arcs = arcs }) 0)
 on_problem k (naming P rows) nodes arcs = refuses AssignmentLine k
 on_problem k (joining g) nodes arcs = refuses AssignmentLine k
 
 -- The source nodes are 1 up to their count in rising order (21).
 abbrev pub on_source : ℕ → Progress → ℕ → Outcome Progress
 on_source k start v = refuses AssignmentLine k
-on_source k (naming P rows) v = cond (eqb v (rows + 1)) (yields (naming P (rows + 1))) (refuses Sources k)
+on_source k (naming P rows) v = cond (eqb v (rows + 1)) (Ok (naming P (rows + 1))) (refuses Sources k)
 on_source k (joining g) v = refuses AssignmentLine k
 
 -- The sizes are judged at the first arc, where it is not surplus.
@@ -141,22 +140,22 @@ on_arc k (naming P rows) a b z = cond (ltb 0 P.arcs) (judged P rows (λ g. with_
 on_arc k (joining g) a b z = cond (more_arcs g) (with_arc k g a b z) (refuses AssignmentLine k)
 
 abbrev pub on_entry : ℕ → Progress → Option Entry → Outcome Progress
-on_entry k s none = refuses AssignmentLine k
-on_entry k s (some (problem nodes arcs)) = on_problem k s nodes arcs
-on_entry k s (some (source v)) = on_source k s v
-on_entry k s (some (arc a b z)) = on_arc k s a b z
+on_entry k s None = refuses AssignmentLine k
+on_entry k s (Some (problem nodes arcs)) = on_problem k s nodes arcs
+on_entry k s (Some (source v)) = on_source k s v
+on_entry k s (Some (arc a b z)) = on_arc k s a b z
 
 -- Line k: one over 1,024 bytes is refused whatever it holds; blank lines and comments may stand anywhere.
 abbrev pub skipped : List ℕ → Bool
 skipped l = blank_line l || assignment_comment l
 
 unfoldable pub on_assignment_line : ℕ → Progress → List ℕ → Outcome Progress
-on_assignment_line k s l = cond (line_fits l) (cond (skipped l) (yields s) (on_entry k s (entry_on l))) (refuses AssignmentLine k)
+on_assignment_line k s l = cond (line_fits l) (cond (skipped l) (Ok s) (on_entry k s (entry_on l))) (refuses AssignmentLine k)
 
 -- Where the lines end, k being the number after the last: a line that is still to come is missing there. The sizes are judged before a missing arc, where
 -- no arc has come.
 abbrev pub complete : ℕ → Graph → Outcome Graph
-complete k g = cond (more_arcs g) (refuses AssignmentLine k) (yields g)
+complete k g = cond (more_arcs g) (refuses AssignmentLine k) (Ok g)
 
 abbrev pub after_last : ℕ → Progress → Outcome Graph
 after_last k start = refuses AssignmentLine k
@@ -164,8 +163,8 @@ after_last k (naming P rows) = judged P rows (complete k)
 after_last k (joining g) = complete k g
 
 abbrev pub proceed : {A : Type 0} → Outcome Progress → (Progress → Outcome A) → Outcome A
-proceed (yields s) rest = rest s
-proceed (refuses f place) rest = refuses f place
+proceed (Ok s) rest = rest s
+proceed (Err refusal) rest = refuses refusal.fault refusal.place
 
 -- The lines ls, of which the first is line k, and a whole text.
 unfoldable pub read_entries : ℕ → Progress → List (List ℕ) → Outcome Graph

@@ -1,7 +1,6 @@
 -- The text of a graph (sheet): what the graph reader yields, and how a graph is written. A text without weights, whose field is `pattern`, is read alike,
 -- each weight as 0: it is the text of a subgraph (plan) without its graph.
-use Rattle.std.specs.Prelude.{ℕ, zero, suc, cond, ◌&&◌, List, [], ◌∷◌, ◌++◌, ltb, eqb, ℤ, pos, length}
-use Rattle.std.proofs.Math.Option.{Option, none, some, map}
+use Rattle.std.specs.Prelude.{ℕ, zero, suc, cond, ◌&&◌, List, [], ◌∷◌, ◌++◌, ltb, eqb, ℤ, pos, length, Option, None, Some, option_map}
 use Rattle.graph.specs.declared.Kind.{Kind}
 use Rattle.graph.specs.declared.Kind.TheVariants.{Bipartite, General}
 use Rattle.graph.specs.declared.Fault.TheVariants.{TextLength, Header, SizeLine, Sizes, LaterLine, Ends, Weight, SameEnds, LentLength}
@@ -34,8 +33,8 @@ abbrev pub shape_from : Kind → ℕ × ℕ × ℕ → Shape
 shape_from kind s = record { kind = kind; rows = s.0; columns = s.1; edges = s.2 }
 
 abbrev pub graph_sizes : Kind → Option (ℕ × ℕ × ℕ) → Step Graph
-graph_sizes kind none = stops SizeLine
-graph_sizes kind (some s) = cond (shape_in_range (shape_from kind s)) (goes (no_edges (shape_from kind s))) (stops Sizes)
+graph_sizes kind None = stops SizeLine
+graph_sizes kind (Some s) = cond (shape_in_range (shape_from kind s)) (goes (no_edges (shape_from kind s))) (stops Sizes)
 
 -- The graph with one edge more.
 abbrev pub with_edge : Graph → ℕ → ℕ → ℤ → Graph
@@ -44,12 +43,12 @@ with_edge g r c w = graph_of (shape_of g) (g.row ++ (r ∷ [])) (g.column ++ (c 
 -- Edge line: row, column, weight; without weights row and column.
 abbrev pub edge_on : Rules → Field → List (List ℕ) → Option (ℕ × ℕ × ℤ)
 edge_on rules Field.Integer ws = three_words (natural rules) (natural rules) (integer rules) ws
-edge_on rules Field.Pattern ws = map (λ e. (e.0, e.1, pos 0)) (two_words (natural rules) (natural rules) ws)
+edge_on rules Field.Pattern ws = option_map (λ e. (e.0, e.1, pos 0)) (two_words (natural rules) (natural rules) ws)
 
 -- Tested in this order: malformed, ends, weight, the ends of an earlier edge.
 abbrev pub graph_edge : Graph → Option (ℕ × ℕ × ℤ) → Step Graph
-graph_edge g none = stops LaterLine
-graph_edge g (some e) =
+graph_edge g None = stops LaterLine
+graph_edge g (Some e) =
     cond (ends_in_range g.kind g.rows g.columns e.0 e.1)
     (cond (weight_in_range e.2)
     (cond (joined g (length g.row) e.0 e.1) (stops SameEnds) (goes (with_edge g e.0 e.1 e.2)))

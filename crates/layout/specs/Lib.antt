@@ -6,4 +6,3 @@ pub mod SubgraphText
 pub mod TidyText
 pub mod AssignmentText
 pub mod Rewrite
-pub mod Answers

@@ -1,8 +1,8 @@
 -- Reading the lines of a text from the top: what each line does, in one order for all texts.
-use Rattle.std.specs.Prelude.{ℕ, ◌+◌, Bool, cond, ◌||◌, List, [], ◌∷◌}
+use Rattle.std.specs.Prelude.{ℕ, ◌+◌, Bool, cond, ◌||◌, List, [], ◌∷◌, Ok}
 use Rattle.graph.specs.declared.Fault.{Fault}
 use Rattle.graph.specs.declared.Fault.TheVariants.{Header, SizeLine, LaterLine}
-use Rattle.graph.specs.Refusal.{Outcome, yields, refuses}
+use Rattle.graph.specs.Refusal.{Outcome, refuses}
 use Rattle.layout.specs.Text.{lines, line_fits, blank_line, comment_line}
 
 -- What a line does: reading goes on in a state, or the line is refused.
@@ -48,7 +48,7 @@ module _ {H B R : Type 0} where
   unfoldable pub at_end : Layout H B R → ℕ → State H B → Outcome R
   at_end L k start = refuses Header k
   at_end L k (sizing h) = refuses SizeLine k
-  at_end L k (reading b) = cond (L.more b) (refuses LaterLine k) (yields (L.result b))
+  at_end L k (reading b) = cond (L.more b) (refuses LaterLine k) (Ok (L.result b))
 
   abbrev pub on_step : ℕ → Step (State H B) → (State H B → Outcome R) → Outcome R
   on_step k (goes s) rest = rest s

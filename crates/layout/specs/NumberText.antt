@@ -1,6 +1,5 @@
 -- The text of bounds (limits) or of prices: what the number reader yields, and how numbers are written.
-use Rattle.std.specs.Prelude.{ℕ, Bool, cond, ◌&&◌, List, [], ◌∷◌, ◌++◌, map, ltb, eqb, ℤ, pos, length}
-use Rattle.std.proofs.Math.Option.{Option, none, some}
+use Rattle.std.specs.Prelude.{ℕ, Bool, cond, ◌&&◌, List, [], ◌∷◌, ◌++◌, map, ltb, eqb, ℤ, pos, length, Option, None, Some}
 use Rattle.integers.specs.Integer.{between}
 use Rattle.graph.specs.declared.Fault.{Fault}
 use Rattle.graph.specs.declared.Fault.TheVariants.{TextLength, Header, SizeLine, Sizes, LaterLine, LentLength, Bound, Price}
@@ -38,8 +37,8 @@ number_header l = cond (header (bytes "matrix" ∷ bytes "array" ∷ bytes "inte
 
 -- Size line: the count asked for, and 1.
 abbrev pub number_sizes : ℕ → Option (ℕ × ℕ) → Step (List ℤ)
-number_sizes count none = stops SizeLine
-number_sizes count (some s) = cond (eqb s.0 count && eqb s.1 1) (goes []) (stops Sizes)
+number_sizes count None = stops SizeLine
+number_sizes count (Some s) = cond (eqb s.0 count && eqb s.1 1) (goes []) (stops Sizes)
 
 -- The judge of a number, by the rules, its sort and those read before it: it is taken after them, or refused with a fault. No sort looks at those before it.
 abbrev pub number_judged : Rules → Numbers → List ℤ → ℤ → Step (List ℤ)
@@ -47,8 +46,8 @@ number_judged rules what zs z = cond (in_range rules what z) (goes (zs ++ (z ∷
 
 -- Then one number a line.
 abbrev pub number_value : Rules → Numbers → List ℤ → Option ℤ → Step (List ℤ)
-number_value rules what zs none = stops LaterLine
-number_value rules what zs (some z) = number_judged rules what zs z
+number_value rules what zs None = stops LaterLine
+number_value rules what zs (Some z) = number_judged rules what zs z
 
 abbrev pub number_layout : Rules → Numbers → ℕ → Layout (Unit {0}) (List ℤ) (List ℤ)
 number_layout rules what count = record {

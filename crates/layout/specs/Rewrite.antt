@@ -1,9 +1,8 @@
 -- The text that `rewrite` writes of an old text (request U2): its numbers, on the size line and the later lines, written in the one way; every other
 -- byte is copied.
-use Rattle.std.specs.Prelude.{ℕ, suc, Bool, true, false, cond, ◌||◌, List, [], ◌∷◌, ◌++◌, map, ℤ}
-use Rattle.std.proofs.Math.Option.{Option, none, some}
+use Rattle.std.specs.Prelude.{ℕ, suc, Bool, true, false, cond, ◌||◌, List, [], ◌∷◌, ◌++◌, map, ℤ, Option, None, Some, Ok, Err}
 use Rattle.graph.specs.Limits.{most_edges, most_old_numbers}
-use Rattle.graph.specs.Refusal.{Outcome, yields, refuses}
+use Rattle.graph.specs.Refusal.{Outcome, refuses}
 use Rattle.graph.specs.Graph.{some?}
 use Rattle.layout.specs.declared.Rules.TheVariants.{Old}
 use Rattle.layout.specs.declared.Field.{Field}
@@ -25,8 +24,8 @@ woven (p ∷ ps) (e ∷ es) = p ++ (e ∷ woven ps es)
 
 -- A word that the old rules take for a number, as that number is written; any other as it is.
 abbrev pub written_as : List ℕ → Option ℤ → List ℕ
-written_as w none = w
-written_as w (some z) = signed z
+written_as w None = w
+written_as w (Some z) = signed z
 
 abbrev pub word_anew : List ℕ → List ℕ
 word_anew w = written_as w (integer Old w)
@@ -47,8 +46,8 @@ text_anew text = woven (lines_anew (lines text)) (ending newline text)
 -- ---- what the old rules take
 
 abbrev pub takes : {A : Type 0} → Outcome A → Bool
-takes (yields a) = true
-takes (refuses fault place) = false
+takes (Ok a) = true
+takes (Err refusal) = false
 
 -- As a graph (sheet); as a subgraph (plan) of some graph, which is a text of a graph without weights; as bounds (limits) or prices of some count.
 abbrev pub taken_as : Field → List ℕ → Bool

@@ -1,12 +1,11 @@
 -- The text of a subgraph (plan): what the subgraph reader yields, and what the writer writes.
-use Rattle.std.specs.Prelude.{ℕ, zero, suc, ◌+◌, Bool, true, false, not, cond, ◌&&◌, List, [], ◌∷◌, ◌++◌, ltb, leb, eqb, length, get_or, set, replicate}
-use Rattle.std.proofs.Math.Option.{Option, none, some}
+use Rattle.std.specs.Prelude.{ℕ, zero, suc, ◌+◌, Bool, true, false, not, cond, ◌&&◌, List, [], ◌∷◌, ◌++◌, ltb, leb, eqb, length, get_or, set, replicate, Option, None, Some, Ok}
 use Rattle.integers.specs.Sum.{sum}
 use Rattle.graph.specs.declared.Kind.{Kind}
 use Rattle.graph.specs.declared.Kind.TheVariants.{Bipartite, General}
 use Rattle.graph.specs.declared.Fault.TheVariants.{TextLength, Header, SizeLine, Sizes, LaterLine, Ends, SameEnds, LentLength, Disagreement}
 use Rattle.graph.specs.Limits.{subgraph_bytes}
-use Rattle.graph.specs.Refusal.{Outcome, yields, Test, once, lowest, passing}
+use Rattle.graph.specs.Refusal.{Outcome, Test, once, lowest, passing}
 use Rattle.graph.specs.Graph.{Graph, row_at, column_at, sizes_in_range, ends_in_range, joins}
 use Rattle.graph.specs.Subgraph.{mark_at}
 use Rattle.graph.specs.Tests.{graph_lengths, graph_tests, mark_test}
@@ -20,8 +19,8 @@ use Rattle.layout.specs.GraphText.{header_text}
 -- Header: `%%MatrixMarket matrix coordinate pattern general`, or `symmetric` for a general graph. A kind that differs from the graph's is a disagreement.
 abbrev pub subgraph_kind : List ℕ → Option Kind
 subgraph_kind l =
-    cond (header (bytes "matrix" ∷ bytes "coordinate" ∷ bytes "pattern" ∷ bytes "general" ∷ []) l) (some Bipartite)
-    (cond (header (bytes "matrix" ∷ bytes "coordinate" ∷ bytes "pattern" ∷ bytes "symmetric" ∷ []) l) (some General) none)
+    cond (header (bytes "matrix" ∷ bytes "coordinate" ∷ bytes "pattern" ∷ bytes "general" ∷ []) l) (Some Bipartite)
+    (cond (header (bytes "matrix" ∷ bytes "coordinate" ∷ bytes "pattern" ∷ bytes "symmetric" ∷ []) l) (Some General) None)
 
 abbrev pub kinds_agree : Kind → Kind → Bool
 kinds_agree Bipartite Bipartite = true
@@ -30,8 +29,8 @@ kinds_agree General Bipartite = false
 kinds_agree General General = true
 
 abbrev pub subgraph_header : Graph → Option Kind → Step (Unit {0})
-subgraph_header g none = stops Header
-subgraph_header g (some kind) = cond (kinds_agree kind g.kind) (goes tt) (stops Disagreement)
+subgraph_header g None = stops Header
+subgraph_header g (Some kind) = cond (kinds_agree kind g.kind) (goes tt) (stops Disagreement)
 
 -- What has been read after the size line: how many chosen edges the text has, how many of them came, and the marks so far.
 pub record Marked : Type 0 where
@@ -41,8 +40,8 @@ pub record Marked : Type 0 where
 
 -- Size line: the graph's rows and columns, and the number of chosen edges.
 abbrev pub subgraph_sizes : Graph → Option (ℕ × ℕ × ℕ) → Step Marked
-subgraph_sizes g none = stops SizeLine
-subgraph_sizes g (some s) =
+subgraph_sizes g None = stops SizeLine
+subgraph_sizes g (Some s) =
     cond (sizes_in_range g.kind s.0 s.1 s.2)
     (cond (eqb s.0 g.rows && eqb s.1 g.columns && leb s.2 g.edges)
     (goes (record { count = s.2; came = 0; marks = replicate g.edges 0 }))
@@ -55,16 +54,16 @@ edge_with g r c = lowest g.edges (λ e. not (joins g r c e))
 
 -- The mark of the edge that a line names: it is in the graph, and no earlier line names it.
 abbrev pub subgraph_mark : Marked → Option ℕ → Step Marked
-subgraph_mark b none = stops Disagreement
-subgraph_mark b (some e) =
+subgraph_mark b None = stops Disagreement
+subgraph_mark b (Some e) =
     cond (eqb (get_or b.marks e 0) 0)
     (goes (record { count = b.count; came = b.came + 1; marks = set b.marks e 1 }))
     (stops SameEnds)
 
 -- Edge line: row and column of a chosen edge, in any order of edges.
 abbrev pub subgraph_edge : Graph → Marked → Option (ℕ × ℕ) → Step Marked
-subgraph_edge g b none = stops LaterLine
-subgraph_edge g b (some e) =
+subgraph_edge g b None = stops LaterLine
+subgraph_edge g b (Some e) =
     cond (ends_in_range g.kind g.rows g.columns e.0 e.1) (subgraph_mark b (edge_with g e.0 e.1)) (stops Ends)
 
 abbrev pub subgraph_layout : Rules → Graph → Layout (Unit {0}) Marked (List ℕ)
@@ -107,4 +106,4 @@ writer_tests g x n = (once LentLength (graph_lengths g && eqb (length x) g.edges
 
 -- What the subgraph writer yields.
 unfoldable pub write_subgraph : Graph → List ℕ → ℕ → Outcome (List ℕ)
-write_subgraph g x n = passing (writer_tests g x n) (yields (subgraph_text g x))
+write_subgraph g x n = passing (writer_tests g x n) (Ok (subgraph_text g x))

@@ -1,7 +1,5 @@
 -- The Matrix Market layout: bytes, lines, words, numbers and headers. A text is the list of its bytes.
-use Rattle.std.specs.Prelude.{ℕ, zero, suc, ◌+◌, ◌*◌, ◌-◌, ◌/◌, ◌%◌, Bool, true, false, not, cond, ◌&&◌, ◌||◌, List, [], ◌∷◌, ◌++◌, map, eqb, leb, ltb, ℤ, pos, negsuc, neg_ℤ, length}
-use Rattle.std.proofs.Math.Option
-use Rattle.std.proofs.Math.Option.{Option, none, some}
+use Rattle.std.specs.Prelude.{ℕ, zero, suc, ◌+◌, ◌*◌, ◌-◌, ◌/◌, ◌%◌, Bool, true, false, not, cond, ◌&&◌, ◌||◌, List, [], ◌∷◌, ◌++◌, map, eqb, leb, ltb, ℤ, pos, negsuc, neg_ℤ, length, Option, None, Some, option_map}
 use Rattle.graph.specs.Limits.{longest_text, longest_line}
 use Prim.Native.String.{String, [] as []ˢ, ◌∷◌ as ◌∷ˢ◌}
 use Prim.Native.Char.{code}
@@ -48,12 +46,12 @@ digit x = leb 48 x && leb x 57
 
 -- The number that the digits ds make when they are written after the number n.
 unfoldable pub digits_after : ℕ → List ℕ → Option ℕ
-digits_after n [] = some n
-digits_after n (d ∷ ds) = cond (digit d) (digits_after (n * 10 + (d - 48)) ds) none
+digits_after n [] = Some n
+digits_after n (d ∷ ds) = cond (digit d) (digits_after (n * 10 + (d - 48)) ds) None
 
 -- 1 to 9 digits, as the number that they make.
 unfoldable pub numeral : List ℕ → Option ℕ
-numeral w = cond (leb 1 (length w) && leb (length w) 9) (digits_after 0 w) none
+numeral w = cond (leb 1 (length w) && leb (length w) 9) (digits_after 0 w) None
 
 -- A leading zero: the word has two bytes or more, and begins with 0 (byte 48).
 abbrev pub padded : List ℕ → Bool
@@ -63,16 +61,16 @@ padded (x ∷ y ∷ w) = eqb x 48
 
 -- A size or an index: 1 to 9 digits, with no leading zero unless it is the single digit 0. The old rules take leading zeros, which count.
 unfoldable pub natural : Rules → List ℕ → Option ℕ
-natural New w = cond (padded w) none (numeral w)
+natural New w = cond (padded w) None (numeral w)
 natural Old w = numeral w
 
 -- What may stand after a sign, of the number that stands there. No + is taken, and no -0; the old rules take both.
 abbrev pub above_zero : Option ℕ → Option ℕ
-above_zero none = none
-above_zero (some n) = cond (eqb n 0) none (some n)
+above_zero None = None
+above_zero (Some n) = cond (eqb n 0) None (Some n)
 
 abbrev pub value_after_plus : Rules → Option ℕ → Option ℕ
-value_after_plus New n = none
+value_after_plus New n = None
 value_after_plus Old n = n
 
 abbrev pub value_after_minus : Rules → Option ℕ → Option ℕ
@@ -81,42 +79,42 @@ value_after_minus Old n = n
 
 -- A number written as a merit is: a size, or one after - (byte 45), or, by the old rules, after + (byte 43).
 unfoldable pub integer : Rules → List ℕ → Option ℤ
-integer rules [] = none
+integer rules [] = None
 integer rules (x ∷ w) =
-    cond (eqb x 43) (Option.map pos (value_after_plus rules (natural rules w)))
-    (cond (eqb x 45) (Option.map (λ n. neg_ℤ (pos n)) (value_after_minus rules (natural rules w))) (Option.map pos (natural rules (x ∷ w))))
+    cond (eqb x 43) (option_map pos (value_after_plus rules (natural rules w)))
+    (cond (eqb x 45) (option_map (λ n. neg_ℤ (pos n)) (value_after_minus rules (natural rules w))) (option_map pos (natural rules (x ∷ w))))
 
 -- Both, or all three, where none is absent.
 abbrev pub pair_of_options : {A B : Type 0} → Option A → Option B → Option (A × B)
-pair_of_options none b = none
-pair_of_options (some a) none = none
-pair_of_options (some a) (some b) = some (a, b)
+pair_of_options None b = None
+pair_of_options (Some a) None = None
+pair_of_options (Some a) (Some b) = Some (a, b)
 
 abbrev pub all3 : {A B C : Type 0} → Option A → Option B → Option C → Option (A × B × C)
-all3 none b c = none
-all3 (some a) none c = none
-all3 (some a) (some b) none = none
-all3 (some a) (some b) (some c) = some (a, b, c)
+all3 None b c = None
+all3 (Some a) None c = None
+all3 (Some a) (Some b) None = None
+all3 (Some a) (Some b) (Some c) = Some (a, b, c)
 
 -- A line of one, two or three words, each read as a number.
 unfoldable pub one_word : {A : Type 0} → (List ℕ → Option A) → List (List ℕ) → Option A
-one_word f [] = none
+one_word f [] = None
 one_word f (u ∷ []) = f u
-one_word f (u ∷ v ∷ ws) = none
+one_word f (u ∷ v ∷ ws) = None
 
 unfoldable pub two_words : {A B : Type 0} → (List ℕ → Option A) → (List ℕ → Option B) → List (List ℕ) → Option (A × B)
-two_words f g [] = none
-two_words f g (u ∷ []) = none
+two_words f g [] = None
+two_words f g (u ∷ []) = None
 two_words f g (u ∷ v ∷ []) = pair_of_options (f u) (g v)
-two_words f g (u ∷ v ∷ w ∷ ws) = none
+two_words f g (u ∷ v ∷ w ∷ ws) = None
 
 unfoldable pub three_words :
     {A B C : Type 0} → (List ℕ → Option A) → (List ℕ → Option B) → (List ℕ → Option C) → List (List ℕ) → Option (A × B × C)
-three_words f g h [] = none
-three_words f g h (u ∷ []) = none
-three_words f g h (u ∷ v ∷ []) = none
+three_words f g h [] = None
+three_words f g h (u ∷ []) = None
+three_words f g h (u ∷ v ∷ []) = None
 three_words f g h (u ∷ v ∷ w ∷ []) = all3 (f u) (g v) (h w)
-three_words f g h (u ∷ v ∷ w ∷ x ∷ ws) = none
+three_words f g h (u ∷ v ∷ w ∷ x ∷ ws) = None
 
 -- A blank line is empty or of blanks only. A comment line begins with % (byte 37).
 abbrev pub no_words : List (List ℕ) → Bool

@@ -1,4 +1,5 @@
 -- Laws of an output that is filled from the front, and of what it holds when the call returns.
+use Rattle.std.specs.Prelude.{Ok, Err}
 use Prim.Native.Nat.{ℕ, zero, suc, ◌+◌, ◌-◌, ◌<◌}
 use mathlib.Core.Path.{◌≡◌, refl, sym, ap, ◌∙◌}
 use mathlib.Core.List.{List, [], ◌∷◌, ◌++◌, append-nil}
@@ -6,7 +7,7 @@ use native.Mathlib.Omega.{arith}
 use lib.ListN.{length, set, length-append, replicate, length-replicate}
 use lib.Seq.{append_snoc, set_at}
 use Rattle.graph.specs.declared.Fault.{Fault}
-use Rattle.graph.specs.Refusal.{Outcome, yields, refuses, reported, filled, output}
+use Rattle.graph.specs.Refusal.{Outcome, refuses, reported, filled, output}
 use Rattle.graph.proofs.Passing.{zero_one}
 use Rattle.lent.specs.Holding.{Holds}
 
@@ -44,18 +45,18 @@ module _ {A N : Type 0} {n : ℕ} {z : N} {f : A → List N} {W : Outcome A} {ou
   pub holds_refused : {fault : Fault} {place : ℕ} → W ≡ refuses fault place → Holds n z f W out
   holds_refused e = record { result = λ a y. zero_one (cc) }
 
-  pub holds_yields : {a : A} → W ≡ yields a → out ≡ filled n z (f a) → Holds n z f W out
+  pub holds_yields : {a : A} → W ≡ Ok a → out ≡ filled n z (f a) → Holds n z f W out
   holds_yields {a} e h = record { result = λ b y. let s : a ≡ b = cc in h ∙ ap (λ c. filled n z (f c)) s }
 
   -- What the call leaves, by what it reports of its result.
-  pub left-yields : {B : Type 0} (g : A → B) {b : B} → Holds n z f W out → yields b ≡ reported g W → out ≡ output n z f W
+  pub left-yields : {B : Type 0} (g : A → B) {b : B} → Holds n z f W out → Ok b ≡ reported g W → out ≡ output n z f W
   left-yields g {b} H = go W refl
     where
-      go : (U : Outcome A) → W ≡ U → yields b ≡ reported g U → out ≡ output n z f U
-      go (yields a) is e = H.result a is
-      go (refuses fault place) is e = zero_one (cc)
+      go : (U : Outcome A) → W ≡ U → Ok b ≡ reported g U → out ≡ output n z f U
+      go (Ok a) is e = H.result a is
+      go (Err refusal) is e = zero_one (cc)
 
 module _ {A B N : Type 0} (n : ℕ) (z : N) (f : A → List N) (g : A → B) where
   pub left-refused : (W : Outcome A) (fault : Fault) (place : ℕ) → refuses fault place ≡ reported g W → replicate n z ≡ output n z f W
-  left-refused (yields a) fault place e = zero_one (cc)
-  left-refused (refuses f p) fault place e = refl
+  left-refused (Ok a) fault place e = zero_one (cc)
+  left-refused (Err refusal) fault place e = refl

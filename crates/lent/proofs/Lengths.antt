@@ -1,4 +1,5 @@
 -- What the test of the lent lengths shows.
+use Rattle.std.specs.Prelude.{Ok}
 use mathlib.Core.Path.{◌≡◌}
 use mathlib.Core.Bool.{Bool, true, ◌&&◌}
 use mathlib.Core.List.{[], ◌∷◌}
@@ -6,7 +7,7 @@ use lib.Dec.{eqb}
 use lib.ListN.{length}
 use borrow.Author.Tests.{eqb-true}
 use Rattle.graph.specs.declared.Fault.TheVariants.{LentLength}
-use Rattle.graph.specs.Refusal.{Outcome, yields, once, passing}
+use Rattle.graph.specs.Refusal.{Outcome, once, passing}
 use Rattle.graph.specs.Graph.{Graph}
 use Rattle.graph.specs.Tests.{graph_lengths, graph_tests}
 use Rattle.graph.specs.Passed.{Passed}
@@ -22,7 +23,7 @@ lengths_hold g e =
 
 -- Where something is yielded after the tests, the graph has passed, and so have the other lengths that were tested with it.
 pub lent_passed : {A : Type 0} (g : Graph) (others : Bool) (o : Outcome A) (a : A) →
-    passing (once LentLength (graph_lengths g && others) ∷ graph_tests g) o ≡ yields a → Passed g × (others ≡ true)
+    passing (once LentLength (graph_lengths g && others) ∷ graph_tests g) o ≡ Ok a → Passed g × (others ≡ true)
 lent_passed g others o a e =
     let w = once-yields LentLength (graph_lengths g && others) (graph_tests g) o a e in
     let h = both (graph_lengths g) others w.0 in

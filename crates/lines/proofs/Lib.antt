@@ -1,4 +1,3 @@
 pub mod Search
-pub mod Tested
 pub mod Walk
 pub mod Entries

@@ -1,79 +1,39 @@
 -- Reading a text from one line that counts to the next, for any layout: what each answer of the walk means for the whole.
+use Rattle.std.specs.Prelude.{None, Some, Result, Ok, Err}
 use Prim.Native.Nat.{ℕ, ◌+◌}
-use mathlib.Core.Path.{◌≡◌, refl, sym, ap, ◌∙◌, subst}
+use mathlib.Core.Path.{◌≡◌, refl, sym, ap, ◌∙◌}
 use mathlib.Core.Bool.{Bool, true, false, cond, ◌||◌}
 use mathlib.Core.List.{List, [], ◌∷◌}
-use native.Mathlib.Omega.{arith}
 use lib.ListN.{drop}
 use Rattle.graph.specs.declared.Fault.{Fault}
 use Rattle.graph.specs.declared.Fault.TheVariants.{Header, SizeLine, LaterLine}
 use Rattle.graph.specs.declared.Refusal.{Refusal}
-use Rattle.graph.specs.Refusal.{Outcome, yields, refuses}
+use Rattle.graph.specs.Refusal.{Outcome, refuses}
 use Rattle.layout.specs.Text.{lines, line_fits, blank_line, comment_line}
 use Rattle.layout.specs.Lines.{Step, goes, stops, State, start, sizing, reading, Layout, sized, begun, on_line, at_end, on_step, read_lines, read_text}
 use Rattle.text.specs.declared.Cursor.{Cursor}
-use Rattle.lines.specs.declared.FoundLine.{FoundLine}
-use Rattle.lines.specs.declared.FoundLine.TheVariants as FoundLine
-use Rattle.lines.specs.declared.Opened.{Opened}
-use Rattle.lines.specs.declared.Opened.TheVariants as Opened
-use Rattle.lines.specs.declared.Later.{Later}
-use Rattle.lines.specs.declared.Later.TheVariants as Later
-use Rattle.lines.specs.Found.{LineFound, at, long, next_data, part, found_says, Reached, Inside, FoundInside, FoundAs}
-use Rattle.lines.specs.Walk.{Met, line, done, refused, opens, follows, header_met, size_met, later_met, opened_of, opened_says, later_says}
-use Rattle.lines.specs.Walk.{OpenedInside, LaterInside, OpenedAs, LaterAs, origin, Walk}
+use Rattle.text.specs.declared.Line.{Line}
+use Rattle.lines.specs.declared.Missing.{Missing}
+use Rattle.lines.specs.Found.{LineFound, at, long, next_data, part, found_says, Inside, FoundInside, FoundAs}
+use Rattle.lines.specs.Walk.{Met, line, done, refused, opens, follows, header_met, size_met, later_met, opened_of, opened_says}
+use Rattle.lines.specs.Walk.{OpenedInside, OpenedAs, LaterAs, origin, Walk}
 
 -- What the functions that look for a line answer, by what was found.
-pub origin-reached : (s : List ℕ) → Reached s origin
-origin-reached s = record { behind = omega arith; reach = omega arith }
-
-pub opened_as : {s : List ℕ} {c : Cursor} {w : LineFound} {o : FoundLine} → FoundAs s c w o → (f : Fault) → {r : Opened} → r ≡ opened_of f o →
-    OpenedAs s c (opens f w) r
-opened_as {s} {c} {w} {o} F f {r} is =
-    subst (OpenedAs s c (opens f w)) (sym is) (record { says = says o ∙ ap (opens f) F.says; inside = inside o F.inside })
+pub opened_as : {s : List ℕ} {c : Cursor} {w : LineFound} (o : Result Line Missing) → FoundAs s c w o → (f : Fault) → OpenedAs s c (opens f w) (opened_of f o)
+opened_as {s} {c} o F f = record { says = says o ∙ ap (opens f) F.says; inside = inside o F.inside }
   where
-    says : (o : FoundLine) → opened_says s (opened_of f o) ≡ opens f (found_says s o)
-    says (FoundLine.At a b d) = refl
-    says (FoundLine.Ended k) = refl
-    says (FoundLine.Long k) = refl
+    says : (o : Result Line Missing) → opened_says s (opened_of f o) ≡ opens f (found_says s o)
+    says (Ok l) = refl
+    says (Err (Missing.Ended k)) = refl
+    says (Err (Missing.Long k)) = refl
 
-    inside : (o : FoundLine) → FoundInside s c o → OpenedInside s c (opened_of f o)
-    inside (FoundLine.At a b d) i = i
-    inside (FoundLine.Ended k) i = tt
-    inside (FoundLine.Long k) i = tt
+    inside : (o : Result Line Missing) → FoundInside s c o → OpenedInside s c (opened_of f o)
+    inside (Ok l) i = i
+    inside (Err m) i = tt
 
-module _ {s : List ℕ} {c : Cursor} {w : LineFound} {o : FoundLine} (F : FoundAs s c w o) {more : Bool} where
-  met_as : (k : FoundLine) → o ≡ k → (m : Bool) → more ≡ m → follows m (found_says s k) ≡ follows more w
-  met_as k is m q = ap (follows m) (ap (found_says s) (sym is) ∙ F.says) ∙ ap (λ (b : Bool). follows b w) (sym q)
-
-  late_as : (n : ℕ) {r : Later} → refused LaterLine n ≡ follows more w → r ≡ Later.Refused (record { fault = LaterLine; place = n }) →
-      LaterAs s c more (follows more w) r
-  late_as n e is = subst (LaterAs s c more (follows more w)) (sym is) (record { says = e; inside = tt })
-
-  module _ {a b : ℕ} {d : Cursor} (is : o ≡ FoundLine.At a b d) where
-    pub later_at : more ≡ true → LaterAs s c more (follows more w) (Later.At a b d)
-    later_at q = record { says = met_as (FoundLine.At a b d) is true q; inside = (subst (FoundInside s c) is F.inside, q) }
-
-    pub later_surplus : more ≡ false → {r : Later} → r ≡ Later.Refused (record { fault = LaterLine; place = d.line }) → LaterAs s c more (follows more w) r
-    later_surplus q same = late_as d.line (met_as (FoundLine.At a b d) is false q) same
-
-  module _ {k : ℕ} where
-    pub later_missing : o ≡ FoundLine.Ended k → more ≡ true → {r : Later} → r ≡ Later.Refused (record { fault = LaterLine; place = k }) →
-        LaterAs s c more (follows more w) r
-    later_missing is q same = late_as k (met_as (FoundLine.Ended k) is true q) same
-
-    pub later_done : o ≡ FoundLine.Ended k → more ≡ false → LaterAs s c more (follows more w) Later.Done
-    later_done is q = record { says = met_as (FoundLine.Ended k) is false q; inside = tt }
-
-    pub later_long : o ≡ FoundLine.Long k → {r : Later} → r ≡ Later.Refused (record { fault = LaterLine; place = k }) → LaterAs s c more (follows more w) r
-    later_long is same = late_as k (met_as (FoundLine.Long k) is more refl) same
-
--- A line that was found is a part of the text, and a later one is one that is still to come.
-pub opened_line : {s : List ℕ} {c : Cursor} {m : Met} {r : Opened} → OpenedAs s c m r → {a e : ℕ} {d : Cursor} → r ≡ Opened.At a e d → Inside s c a e d
-opened_line {s} {c} F is = subst (OpenedInside s c) is F.inside
-
-pub later_found : {s : List ℕ} {c : Cursor} {more : Bool} {m : Met} {r : Later} → LaterAs s c more m r → {a e : ℕ} {d : Cursor} → r ≡ Later.At a e d →
-    Inside s c a e d × (more ≡ true)
-later_found {s} {c} {more} F is = subst (LaterInside s c more) is F.inside
+pub later_at : {s : List ℕ} {c : Cursor} {w : LineFound} {more : Bool} {l : Line} → FoundAs s c w (Ok l) → more ≡ true →
+    LaterAs s c more (follows more w) (Ok (Some l))
+later_at {w = w} {l = l} F q = record { says = ap (follows true) F.says ∙ ap (λ (b : Bool). follows b w) (sym q); inside = (F.inside, q) }
 
 module _ {H B R : Type 0} (L : Layout H B R) where
   -- What a line does in each state, where it counts; and what reading yields by what is met.
@@ -119,18 +79,18 @@ module _ {H B R : Type 0} (L : Layout H B R) where
       go false skipped ih = refl
 
   pub read_later : (b : B) (m : Bool) → L.more b ≡ m → (k : ℕ) (ls : List (List ℕ)) →
-      read_lines L k (reading b) ls ≡ met (does (reading b)) (yields (L.result b)) (follows m (next_data blank_line k ls))
+      read_lines L k (reading b) ls ≡ met (does (reading b)) (Ok (L.result b)) (follows m (next_data blank_line k ls))
   unfolding read_lines on_line at_end next_data
-  read_later b true q k [] = ap (λ (x : Bool). cond {A = Outcome R} x (refuses LaterLine k) (yields (L.result b))) q
-  read_later b false q k [] = ap (λ (x : Bool). cond {A = Outcome R} x (refuses LaterLine k) (yields (L.result b))) q
+  read_later b true q k [] = ap (λ (x : Bool). cond {A = Outcome R} x (refuses LaterLine k) (Ok (L.result b))) q
+  read_later b false q k [] = ap (λ (x : Bool). cond {A = Outcome R} x (refuses LaterLine k) (Ok (L.result b))) q
   read_later b m q k (l ∷ ls) = go (line_fits l) (blank_line l) m q (read_later b m q (k + 1) ls)
     where
       go :
           (fits skipped m : Bool) → L.more b ≡ m →
-          read_lines L (k + 1) (reading b) ls ≡ met (does (reading b)) (yields (L.result b)) (follows m (next_data blank_line (k + 1) ls))
+          read_lines L (k + 1) (reading b) ls ≡ met (does (reading b)) (Ok (L.result b)) (follows m (next_data blank_line (k + 1) ls))
           → on_step k (cond fits (cond skipped (goes (reading b)) (cond (L.more b) (does (reading b) l) (stops LaterLine))) (stops LaterLine))
           (λ t. read_lines L (k + 1) t ls)
-          ≡ met (does (reading b)) (yields (L.result b)) (follows m (cond fits (cond skipped (next_data blank_line (k + 1) ls) (at k l ls)) (long k)))
+          ≡ met (does (reading b)) (Ok (L.result b)) (follows m (cond fits (cond skipped (next_data blank_line (k + 1) ls) (at k l ls)) (long k)))
       go true true m q ih = ih
       go true false true q ih = ap (λ (x : Bool). on_step k (cond x (does (reading b) l) (stops LaterLine)) (λ t. read_lines L (k + 1) t ls)) q
       go true false false q ih = ap (λ (x : Bool). on_step k (cond x (does (reading b) l) (stops LaterLine)) (λ t. read_lines L (k + 1) t ls)) q
@@ -161,61 +121,53 @@ module _ {H B R : Type 0} (L : Layout H B R) where
     met_refused x is = sym (w ∙ ap (met f end) (sym is))
 
   -- The header line.
-  module _ {s : List ℕ} {r : Opened} (F : OpenedAs s origin (header_met s) r) where
-    pub header_refused : {x : Refusal} → r ≡ Opened.Refused x → refuses x.fault x.place ≡ read_text L s
-    header_refused {x} is = met_refused s origin (does start) nothing (header_met s) (read_header 1 (lines s)) x (ap (opened_says s) (sym is) ∙ F.says)
+  module _ {s : List ℕ} where
+    pub header_refused : {x : Refusal} → OpenedAs s origin (header_met s) (Err x) → refuses x.fault x.place ≡ read_text L s
+    header_refused {x} F = met_refused s origin (does start) nothing (header_met s) (read_header 1 (lines s)) x F.says
 
-    module _ {a e : ℕ} {d : Cursor} (is : r ≡ Opened.At a e d) where
-      pub header-goes : (h : H) → L.header_line (part s a e) ≡ goes h → Walk L s d (sizing h)
+    module _ {l : Line} (F : OpenedAs s origin (header_met s) (Ok l)) where
+      pub header-goes : (h : H) → L.header_line (part s l.start l.end) ≡ goes h → Walk L s l.next (sizing h)
       header-goes h q =
-          met_goes s origin (does start) nothing (header_met s) (read_header 1 (lines s)) (opened_line F is) (ap (opened_says s) (sym is) ∙ F.says)
-          (sizing h) (ap sized q)
+          met_goes s origin (does start) nothing (header_met s) (read_header 1 (lines s)) F.inside F.says (sizing h) (ap sized q)
 
-      pub header-stops : (f : Fault) → L.header_line (part s a e) ≡ stops f → {x : Refusal} → x ≡ record { fault = f; place = d.line } →
+      pub header-stops : (f : Fault) → L.header_line (part s l.start l.end) ≡ stops f → {x : Refusal} → x ≡ record { fault = f; place = l.next.line } →
           refuses x.fault x.place ≡ read_text L s
       header-stops f q same =
-          met_stops s origin (does start) nothing (header_met s) (read_header 1 (lines s)) (opened_line F is) (ap (opened_says s) (sym is) ∙ F.says) f
-          (ap sized q) same
+          met_stops s origin (does start) nothing (header_met s) (read_header 1 (lines s)) F.inside F.says f (ap sized q) same
 
   -- The size line.
-  module _ {s : List ℕ} {c : Cursor} {h : H} (w : Walk L s c (sizing h)) {r : Opened} (F : OpenedAs s c (size_met s c) r) where
+  module _ {s : List ℕ} {c : Cursor} {h : H} (w : Walk L s c (sizing h)) where
     size_whole : read_text L s ≡ met (does (sizing h)) nothing (size_met s c)
     size_whole = sym w.whole ∙ read_size h (c.line + 1) (lines (drop c.at s))
 
-    pub size_refused : {x : Refusal} → r ≡ Opened.Refused x → refuses x.fault x.place ≡ read_text L s
-    size_refused {x} is = met_refused s c (does (sizing h)) nothing (size_met s c) size_whole x (ap (opened_says s) (sym is) ∙ F.says)
+    pub size_refused : {x : Refusal} → OpenedAs s c (size_met s c) (Err x) → refuses x.fault x.place ≡ read_text L s
+    size_refused {x} F = met_refused s c (does (sizing h)) nothing (size_met s c) size_whole x F.says
 
-    module _ {a e : ℕ} {d : Cursor} (is : r ≡ Opened.At a e d) where
-      pub size_goes : (b : B) → L.size_line h (part s a e) ≡ goes b → Walk L s d (reading b)
-      size_goes b q =
-          met_goes s c (does (sizing h)) nothing (size_met s c) size_whole (opened_line F is) (ap (opened_says s) (sym is) ∙ F.says) (reading b) (ap begun q)
+    module _ {l : Line} (F : OpenedAs s c (size_met s c) (Ok l)) where
+      pub size_goes : (b : B) → L.size_line h (part s l.start l.end) ≡ goes b → Walk L s l.next (reading b)
+      size_goes b q = met_goes s c (does (sizing h)) nothing (size_met s c) size_whole F.inside F.says (reading b) (ap begun q)
 
-      pub size_stops : (f : Fault) → L.size_line h (part s a e) ≡ stops f → {x : Refusal} → x ≡ record { fault = f; place = d.line } →
+      pub size_stops : (f : Fault) → L.size_line h (part s l.start l.end) ≡ stops f → {x : Refusal} → x ≡ record { fault = f; place = l.next.line } →
           refuses x.fault x.place ≡ read_text L s
-      size_stops f q same =
-          met_stops s c (does (sizing h)) nothing (size_met s c) size_whole (opened_line F is) (ap (opened_says s) (sym is) ∙ F.says) f (ap begun q)
-          same
+      size_stops f q same = met_stops s c (does (sizing h)) nothing (size_met s c) size_whole F.inside F.says f (ap begun q) same
 
   -- A later line, where the code is right on whether one is still to come.
-  module _ {s : List ℕ} {c : Cursor} {b : B} (w : Walk L s c (reading b)) {more : Bool} (right : L.more b ≡ more) {r : Later}
-      (F : LaterAs s c more (later_met s c more) r) where
-    later_whole : read_text L s ≡ met (does (reading b)) (yields (L.result b)) (later_met s c more)
+  module _ {s : List ℕ} {c : Cursor} {b : B} (w : Walk L s c (reading b)) {more : Bool} (right : L.more b ≡ more) where
+    later_whole : read_text L s ≡ met (does (reading b)) (Ok (L.result b)) (later_met s c more)
     later_whole = sym w.whole ∙ read_later b more right (c.line + 1) (lines (drop c.at s))
 
-    pub later_refused : {x : Refusal} → r ≡ Later.Refused x → refuses x.fault x.place ≡ read_text L s
-    later_refused {x} is = met_refused s c (does (reading b)) (yields (L.result b)) (later_met s c more) later_whole x (ap (later_says s) (sym is) ∙ F.says)
+    pub later_refused : {x : Refusal} → LaterAs s c more (later_met s c more) (Err x) → refuses x.fault x.place ≡ read_text L s
+    later_refused {x} F = met_refused s c (does (reading b)) (Ok (L.result b)) (later_met s c more) later_whole x F.says
 
-    pub later_yields : r ≡ Later.Done → yields (L.result b) ≡ read_text L s
-    later_yields is = sym (later_whole ∙ ap (met (does (reading b)) (yields (L.result b))) (sym (ap (later_says s) (sym is) ∙ F.says)))
+    pub later_yields : LaterAs s c more (later_met s c more) (Ok None) → Ok (L.result b) ≡ read_text L s
+    later_yields F = sym (later_whole ∙ ap (met (does (reading b)) (Ok (L.result b))) (sym F.says))
 
-    module _ {a e : ℕ} {d : Cursor} (is : r ≡ Later.At a e d) where
-      pub later_goes : (to : B) → L.later_line b (part s a e) ≡ goes to → Walk L s d (reading to)
+    module _ {l : Line} (F : LaterAs s c more (later_met s c more) (Ok (Some l))) where
+      pub later_goes : (to : B) → L.later_line b (part s l.start l.end) ≡ goes to → Walk L s l.next (reading to)
       later_goes to q =
-          met_goes s c (does (reading b)) (yields (L.result b)) (later_met s c more) later_whole (later_found F is).0
-          (ap (later_says s) (sym is) ∙ F.says) (reading to) (ap begun q)
+          met_goes s c (does (reading b)) (Ok (L.result b)) (later_met s c more) later_whole F.inside.0 F.says (reading to) (ap begun q)
 
-      pub later_stops : (f : Fault) → L.later_line b (part s a e) ≡ stops f → {x : Refusal} → x ≡ record { fault = f; place = d.line } →
+      pub later_stops : (f : Fault) → L.later_line b (part s l.start l.end) ≡ stops f → {x : Refusal} → x ≡ record { fault = f; place = l.next.line } →
           refuses x.fault x.place ≡ read_text L s
       later_stops f q same =
-          met_stops s c (does (reading b)) (yields (L.result b)) (later_met s c more) later_whole (later_found F is).0
-          (ap (later_says s) (sym is) ∙ F.says) f (ap begun q) same
+          met_stops s c (does (reading b)) (Ok (L.result b)) (later_met s c more) later_whole F.inside.0 F.says f (ap begun q) same

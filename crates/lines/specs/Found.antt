@@ -1,12 +1,9 @@
 -- The next line that counts: the first that is not skipped.
-use Rattle.std.specs.Prelude.{ℕ, ◌+◌, ◌-◌, ◌≤◌, ◌<◌, ◌≡◌, Bool, false, cond, ◌||◌, List, [], ◌∷◌, length, take, drop}
-use Rattle.layout.specs.Text.{lines, line_fits, blank_line, comment_line}
-use Rattle.layout.specs.AssignmentText.{skipped}
+use Rattle.std.specs.Prelude.{ℕ, ◌+◌, ◌-◌, ◌≤◌, ◌<◌, ◌≡◌, Bool, cond, List, [], ◌∷◌, length, take, drop, Result, Ok, Err}
+use Rattle.layout.specs.Text.{lines, line_fits}
 use Rattle.text.specs.declared.Cursor.{Cursor}
-use Rattle.lines.specs.declared.Skipped.{Skipped}
-use Rattle.lines.specs.declared.Skipped.TheVariants as Skipped
-use Rattle.lines.specs.declared.FoundLine.{FoundLine}
-use Rattle.lines.specs.declared.FoundLine.TheVariants as FoundLine
+use Rattle.text.specs.declared.Line.{Line}
+use Rattle.lines.specs.declared.Missing.{Missing}
 
 -- Line k, which counts, and the lines after it; or the lines end, where line k would be; or line k is over 1,024 bytes.
 pub data LineFound : Type 0 where
@@ -15,27 +12,21 @@ pub data LineFound : Type 0 where
   long : ℕ → LineFound
 
 -- The lines ls, of which the first is line k: the first that is not skipped. A line over 1,024 bytes is not skipped, whatever it holds.
+-- Nothing is skipped before the header; blank lines and comments before the size line; blank lines before a later line; and in an assignment text blank lines
+-- and its own comments.
 unfoldable pub next_data : (List ℕ → Bool) → ℕ → List (List ℕ) → LineFound
 next_data skip k [] = ended k
 next_data skip k (l ∷ ls) = cond (line_fits l) (cond (skip l) (next_data skip (k + 1) ls) (at k l ls)) (long k)
-
--- What is skipped before each line: nothing before the header; blank lines and comments before the size line; blank lines before a later line; and in an
--- assignment text blank lines and its own comments.
-abbrev pub skips : Skipped → List ℕ → Bool
-skips Skipped.Nothing l = false
-skips Skipped.BlankAndComment l = blank_line l || comment_line l
-skips Skipped.Blank l = blank_line l
-skips Skipped.BlankAndAssignmentComment l = skipped l
 
 -- The line from a to e.
 abbrev pub part : List ℕ → ℕ → ℕ → List ℕ
 part s a e = take (e - a) (drop a s)
 
 -- What an answer says of the text s.
-abbrev pub found_says : List ℕ → FoundLine → LineFound
-found_says s (FoundLine.At start end next) = at next.line (part s start end) (lines (drop next.at s))
-found_says s (FoundLine.Ended k) = ended k
-found_says s (FoundLine.Long k) = long k
+abbrev pub found_says : List ℕ → Result Line Missing → LineFound
+found_says s (Ok l) = at l.next.line (part s l.start l.end) (lines (drop l.next.at s))
+found_says s (Err (Missing.Ended k)) = ended k
+found_says s (Err (Missing.Long k)) = long k
 
 -- A cursor that stands in the text s, or after its end.
 pub record Reached (s : List ℕ) (c : Cursor) : Type 0 where
@@ -49,12 +40,11 @@ pub record Inside (s : List ℕ) (c : Cursor) (start end : ℕ) (next : Cursor) 
   pub reached : Reached s next
   pub onward : c.at < next.at
 
-abbrev pub FoundInside : List ℕ → Cursor → FoundLine → Type 0
-FoundInside s c (FoundLine.At start end next) = Inside s c start end next
-FoundInside s c (FoundLine.Ended k) = Unit {0}
-FoundInside s c (FoundLine.Long k) = Unit {0}
+abbrev pub FoundInside : List ℕ → Cursor → Result Line Missing → Type 0
+FoundInside s c (Ok l) = Inside s c l.start l.end l.next
+FoundInside s c (Err m) = Unit {0}
 
 -- An answer tells the first line from the cursor c on that is not skipped.
-pub record FoundAs (s : List ℕ) (c : Cursor) (found : LineFound) (r : FoundLine) : Type 0 where
+pub record FoundAs (s : List ℕ) (c : Cursor) (found : LineFound) (r : Result Line Missing) : Type 0 where
   pub says : found_says s r ≡ found
   pub inside : FoundInside s c r

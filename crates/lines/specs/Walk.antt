@@ -1,16 +1,13 @@
 -- The walk over the lines of a text: what a reader meets next, and how far reading has come, for any layout.
-use Rattle.std.specs.Prelude.{ℕ, ◌+◌, ◌≡◌, Bool, true, false, cond, ◌||◌, List, drop}
+use Rattle.std.specs.Prelude.{ℕ, ◌+◌, ◌≡◌, Bool, true, false, cond, ◌||◌, List, drop, Option, None, Some, Result, Ok, Err}
 use Rattle.graph.specs.declared.Fault.{Fault}
 use Rattle.graph.specs.declared.Fault.TheVariants.{Header, SizeLine, LaterLine}
+use Rattle.graph.specs.declared.Refusal.{Refusal}
 use Rattle.layout.specs.Text.{lines, blank_line, comment_line}
 use Rattle.layout.specs.Lines.{State, Layout, read_lines, read_text}
 use Rattle.text.specs.declared.Cursor.{Cursor}
-use Rattle.lines.specs.declared.FoundLine.{FoundLine}
-use Rattle.lines.specs.declared.FoundLine.TheVariants as FoundLine
-use Rattle.lines.specs.declared.Opened.{Opened}
-use Rattle.lines.specs.declared.Opened.TheVariants as Opened
-use Rattle.lines.specs.declared.Later.{Later}
-use Rattle.lines.specs.declared.Later.TheVariants as Later
+use Rattle.text.specs.declared.Line.{Line}
+use Rattle.lines.specs.declared.Missing.{Missing}
 use Rattle.lines.specs.Found.{LineFound, at, ended, long, next_data, part, Reached, Inside}
 
 -- What a reader meets: line k and the lines after it; the end, where no line is to come; or a refusal.
@@ -41,35 +38,38 @@ abbrev pub later_met : List ℕ → Cursor → Bool → Met
 later_met s c more = follows more (next_data blank_line (c.line + 1) (lines (drop c.at s)))
 
 -- What the answers say.
-abbrev pub opened_of : Fault → FoundLine → Opened
-opened_of f (FoundLine.At start end next) = Opened.At start end next
-opened_of f (FoundLine.Ended k) = Opened.Refused (record { fault = f; place = k })
-opened_of f (FoundLine.Long k) = Opened.Refused (record { fault = f; place = k })
+abbrev pub place_of : Missing → ℕ
+place_of (Missing.Ended k) = k
+place_of (Missing.Long k) = k
 
-abbrev pub opened_says : List ℕ → Opened → Met
-opened_says s (Opened.At start end next) = line next.line (part s start end) (lines (drop next.at s))
-opened_says s (Opened.Refused r) = refused r.fault r.place
+abbrev pub opened_of : Fault → Result Line Missing → Result Line Refusal
+opened_of f (Ok l) = Ok l
+opened_of f (Err m) = Err (record { fault = f; place = place_of m })
 
-abbrev pub later_says : List ℕ → Later → Met
-later_says s (Later.At start end next) = line next.line (part s start end) (lines (drop next.at s))
-later_says s Later.Done = done
-later_says s (Later.Refused r) = refused r.fault r.place
+abbrev pub opened_says : List ℕ → Result Line Refusal → Met
+opened_says s (Ok l) = line l.next.line (part s l.start l.end) (lines (drop l.next.at s))
+opened_says s (Err r) = refused r.fault r.place
 
-abbrev pub OpenedInside : List ℕ → Cursor → Opened → Type 0
-OpenedInside s c (Opened.At start end next) = Inside s c start end next
-OpenedInside s c (Opened.Refused r) = Unit {0}
+abbrev pub later_says : List ℕ → Result (Option Line) Refusal → Met
+later_says s (Ok (Some l)) = line l.next.line (part s l.start l.end) (lines (drop l.next.at s))
+later_says s (Ok None) = done
+later_says s (Err r) = refused r.fault r.place
 
-abbrev pub LaterInside : List ℕ → Cursor → Bool → Later → Type 0
-LaterInside s c more (Later.At start end next) = Inside s c start end next × (more ≡ true)
-LaterInside s c more Later.Done = Unit {0}
-LaterInside s c more (Later.Refused r) = Unit {0}
+abbrev pub OpenedInside : List ℕ → Cursor → Result Line Refusal → Type 0
+OpenedInside s c (Ok l) = Inside s c l.start l.end l.next
+OpenedInside s c (Err r) = Unit {0}
+
+abbrev pub LaterInside : List ℕ → Cursor → Bool → Result (Option Line) Refusal → Type 0
+LaterInside s c more (Ok (Some l)) = Inside s c l.start l.end l.next × (more ≡ true)
+LaterInside s c more (Ok None) = Unit {0}
+LaterInside s c more (Err r) = Unit {0}
 
 -- An answer tells what is met from the cursor c on.
-pub record OpenedAs (s : List ℕ) (c : Cursor) (met : Met) (r : Opened) : Type 0 where
+pub record OpenedAs (s : List ℕ) (c : Cursor) (met : Met) (r : Result Line Refusal) : Type 0 where
   pub says : opened_says s r ≡ met
   pub inside : OpenedInside s c r
 
-pub record LaterAs (s : List ℕ) (c : Cursor) (more : Bool) (met : Met) (r : Later) : Type 0 where
+pub record LaterAs (s : List ℕ) (c : Cursor) (more : Bool) (met : Met) (r : Result (Option Line) Refusal) : Type 0 where
   pub says : later_says s r ≡ met
   pub inside : LaterInside s c more r
 

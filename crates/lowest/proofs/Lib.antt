@@ -1,3 +1,3 @@
 -- The laws of searches for the lowest item.
 pub mod Scan
-pub mod Rows
+pub mod Found

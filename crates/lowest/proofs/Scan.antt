@@ -1,15 +1,13 @@
 -- One law for every loop that searches: for the lowest item that breaks a test, or for an item with a property.
+use Rattle.std.specs.Prelude.{None, Some, Option}
 use Prim.Native.Nat.{ℕ, ◌+◌, ◌≤◌, ◌<◌}
 use mathlib.Core.Path.{◌≡◌, sym, ap, ◌∙◌}
 use mathlib.Core.Bool.{Bool, true, false}
-use mathlib.Core.Option.{none, some}
 use native.Mathlib.Omega.{arith}
 use borrow.Author.Count.{below_none, below_more}
 use Rattle.graph.specs.Refusal.{lowest}
 use Rattle.graph.specs.Graph.{some?}
 use Rattle.graph.proofs.Passing.{none_lowest, some_lowest, some_yes, none_some}
-use Rattle.lowest.specs.declared.Lowest.{Lowest}
-use Rattle.lowest.specs.Lowest.{lowest_says}
 
 -- Of n items, each below i keeps the test f.
 pub record KeptBelow (n : ℕ) (f : ℕ → Bool) (i : ℕ) : Type 0 where
@@ -24,10 +22,10 @@ module _ {n : ℕ} {f : ℕ → Bool} where
     pub kept_more : i < n → f i ≡ true → KeptBelow n f (i + 1)
     kept_more l e = record { within = omega arith; before = below_more (λ k. f k ≡ true) i K.before e }
 
-    pub kept_broken : i < n → f i ≡ false → some i ≡ lowest n f
+    pub kept_broken : i < n → f i ≡ false → Some i ≡ lowest n f
     kept_broken l e = sym (some_lowest n f i (record { among = l; breaks = e; before = K.before }))
 
-    pub kept_all : n ≤ i → none ≡ lowest n f
+    pub kept_all : n ≤ i → None ≡ lowest n f
     kept_all l = sym (none_lowest n f (λ k b. K.before k (omega arith)))
 
 -- Of n items, none below i has the property f.
@@ -50,5 +48,5 @@ module _ {n : ℕ} {f : ℕ → Bool} where
     unseen_all l = sym (none_some n f (λ k b. U.before k (omega arith)))
 
 -- A search over n items, which are k, has answered r, which is m.
-pub says : (f : ℕ → Bool) {r m : Lowest} {n k : ℕ} → lowest_says r ≡ lowest n f → r ≡ m → n ≡ k → lowest k f ≡ lowest_says m
-says f {r} {m} {n} {k} e i j = sym (ap (λ l. lowest l f) j) ∙ sym e ∙ ap lowest_says i
+pub says : (f : ℕ → Bool) {r m : (Option ℕ)} {n k : ℕ} → r ≡ lowest n f → r ≡ m → n ≡ k → lowest k f ≡ m
+says f {r} {m} {n} {k} e i j = sym (ap (λ l. lowest l f) j) ∙ sym e ∙ i

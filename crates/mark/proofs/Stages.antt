@@ -1,5 +1,6 @@
 -- What each stage of `mark` comes to, from what the call that it makes answers.
-use Prim.Native.Nat.{ℕ, ◌+◌, ◌-◌, ◌≤◌}
+use Rattle.std.specs.Prelude.{Ok, Err}
+use Prim.Native.Nat.{ℕ, ◌+◌, ◌≤◌}
 use mathlib.Core.Path.{◌≡◌, sym, ap, ap₂, ◌∙◌, subst}
 use mathlib.Core.List.{List}
 use native.Mathlib.Omega.{arith}
@@ -7,24 +8,17 @@ use lib.IntN.{ℤ, pos}
 use lib.ListN.{length, take, drop}
 use Rattle.graph.specs.declared.Fault.{Fault}
 use Rattle.graph.specs.declared.Refusal.{Refusal}
-use Rattle.graph.specs.Refusal.{Outcome, yields, refuses, Told, told, reported, output}
+use Rattle.graph.specs.Refusal.{Outcome, refuses, reported, output}
 use Rattle.graph.specs.Graph.{Graph, vertices}
 use Rattle.layout.specs.declared.Rules.TheVariants.{New}
 use Rattle.layout.specs.declared.Numbers.TheVariants.{Prices}
-use Rattle.layout.specs.declared.NumbersAnswer.{NumbersAnswer}
-use Rattle.layout.specs.declared.NumbersAnswer.TheVariants as NumbersAnswer
-use Rattle.layout.specs.declared.SubgraphAnswer.{SubgraphAnswer}
-use Rattle.layout.specs.declared.SubgraphAnswer.TheVariants as SubgraphAnswer
 use Rattle.layout.specs.NumberText.{read_numbers}
 use Rattle.layout.specs.SubgraphText.{read_subgraph}
-use Rattle.layout.specs.Answers.{numbers_say, subgraph_says}
 use Rattle.dual.specs.declared.Measures.{Measures}
 use Rattle.dual.specs.Measure.{measure}
 use Rattle.dual.specs.Solve.{without_sets}
 use Rattle.lent.proofs.Filling.{filled-all}
-use Rattle.digits.proofs.Over.{part-is}
 use Rattle.report.specs.declared.Source.{Source}
-use Rattle.report.specs.declared.Source.TheVariants as Source
 use Rattle.report.specs.Report.{measured_line, line_room, Composed}
 use Rattle.report.specs.Programs.{Run, ends, came_from, and_then, written, mark_prices, mark_plan, mark_problem}
 use Rattle.problem_reader.proofs.Kept.{numbers_filled, subgraph_whole, numbers_yielded, numbers_refused, subgraph_yielded, subgraph_refused}
@@ -40,24 +34,23 @@ module _ {N A : Type 0} (source : Source) {W U : Outcome (List N)} (same : W ≡
   stage_ends e = ap (λ (o : Outcome (List N)). and_then (came_from source o) next) (sym e ∙ same)
 
   -- The reader's output holds all that is read.
-  stage_goes : (n : ℕ) (z : N) (xs : List N) {out : List N} → W ≡ yields xs → length xs ≡ n → out ≡ output n z (λ ys. ys) W →
+  stage_goes : (n : ℕ) (z : N) (xs : List N) {out : List N} → W ≡ Ok xs → length xs ≡ n → out ≡ output n z (λ ys. ys) W →
       next out ≡ and_then (came_from source U) next
   stage_goes n z xs e long holds =
       ap next (holds ∙ ap (output n z (λ ys. ys)) e ∙ filled-all n z xs long)
       ∙ ap (λ (o : Outcome (List N)). and_then (came_from source o) next) (sym e ∙ same)
 
--- The prices, lent in two parts: an answer says what measuring comes to, and the line of what it says is written.
-pub prices_composed :
-    (g : Graph) (bound : List ℤ) (x : List ℕ) (price : List ℤ) (n : ℕ) {says : Told Measures} {before after : List ℕ} {r : ℕ} → n ≡ vertices g
-    → says ≡ told (measure g bound x (without_sets (take n price) (take (length price - n) (drop n price))))
-    → ((o : Outcome Measures) → says ≡ told o → Composed line_room (written measured_line (came_from Source.Input o)) before after r)
+-- The prices, lent in two parts: the line of what the measuring answers is written.
+pub prices_composed : (g : Graph) (bound : List ℤ) (x : List ℕ) (price : List ℤ) {n : ℕ} {vertex edge : List ℤ} {says : Outcome Measures} {before after : List ℕ} {r : ℕ}
+    → n ≡ vertices g → vertex ≡ take n price → edge ≡ drop n price → says ≡ measure g bound x (without_sets vertex edge)
+    → Composed line_room (written measured_line (came_from Source.Input says)) before after r
     → Composed line_room (written measured_line (mark_prices g bound x price)) before after r
-prices_composed g bound x price n all is puts =
+prices_composed g bound x price all front back is =
     same_line
     (ap (came_from Source.Input)
-    (ap (λ (edge : List ℤ). measure g bound x (without_sets (take n price) edge)) (part-is price n)
+    (is
+    ∙ ap₂ (λ vertex edge. measure g bound x (without_sets vertex edge)) front back
     ∙ ap (λ k. measure g bound x (without_sets (take k price) (drop k price))) all))
-    (puts (measure g bound x (without_sets (take n price) (take (length price - n) (drop n price)))) is)
 
 -- The prices of n vertices are among them all.
 pub vertices-priced : (n edges : ℕ) {all vertices : ℕ} → n ≡ vertices → n + edges ≡ all → vertices ≤ all
@@ -68,12 +61,12 @@ module _ (g : Graph) (bound : List ℤ) (x prices : List ℕ) (count n : ℕ) (a
   prices_asked : read_numbers Prices count n prices ≡ read_numbers Prices (vertices g + g.edges) (vertices g + g.edges) prices
   prices_asked = ap₂ (λ i j. read_numbers Prices i j prices) asked (sym lent ∙ asked)
 
-  module _ {a : NumbersAnswer} (says : numbers_say a ≡ told (reported (λ zs. tt {0}) (read_numbers Prices count n prices))) where
-    pub plan_ends : {f : Refusal} → a ≡ NumbersAnswer.Refused f → ends Source.Prices f.fault f.place ≡ mark_plan g bound x prices
+  module _ {a : (Outcome (Unit {0}))} (says : a ≡ reported (λ zs. tt {0}) (read_numbers Prices count n prices)) where
+    pub plan_ends : {f : Refusal} → a ≡ Err f → ends Source.Prices f.fault f.place ≡ mark_plan g bound x prices
     plan_ends is = stage_ends Source.Prices prices_asked (mark_prices g bound x) (numbers_refused says is)
 
     pub plan_goes :
-        {price part : List ℤ} → a ≡ NumbersAnswer.Read → price ≡ part → part ≡ output n (pos 0) (λ zs. zs) (read_numbers Prices count n prices)
+        {price part : List ℤ} → a ≡ (Ok tt) → price ≡ part → part ≡ output n (pos 0) (λ zs. zs) (read_numbers Prices count n prices)
         → mark_prices g bound x price ≡ mark_plan g bound x prices
     plan_goes is first holds =
         let y = numbers_yielded says is in
@@ -85,12 +78,12 @@ module _ (g : Graph) (bound : List ℤ) (plan prices : List ℕ) (n : ℕ) (lent
   marks_asked : read_subgraph g n plan ≡ read_subgraph g g.edges plan
   marks_asked = ap (λ k. read_subgraph g k plan) (sym lent)
 
-  module _ {a : SubgraphAnswer} (says : subgraph_says a ≡ told (reported (λ x. tt {0}) (read_subgraph g n plan))) where
-    pub problem_ends : {f : Refusal} → a ≡ SubgraphAnswer.Refused f → ends Source.Plan f.fault f.place ≡ mark_problem g bound plan prices
+  module _ {a : (Outcome (Unit {0}))} (says : a ≡ reported (λ x. tt {0}) (read_subgraph g n plan)) where
+    pub problem_ends : {f : Refusal} → a ≡ Err f → ends Source.Plan f.fault f.place ≡ mark_problem g bound plan prices
     problem_ends is = stage_ends Source.Plan marks_asked (λ x. mark_plan g bound x prices) (subgraph_refused says is)
 
     pub problem_goes :
-        {chosen part : List ℕ} → a ≡ SubgraphAnswer.Read → chosen ≡ part → part ≡ output n 0 (λ x. x) (read_subgraph g n plan)
+        {chosen part : List ℕ} → a ≡ (Ok tt) → chosen ≡ part → part ≡ output n 0 (λ x. x) (read_subgraph g n plan)
         → mark_plan g bound chosen prices ≡ mark_problem g bound plan prices
     problem_goes is first holds =
         let y = subgraph_yielded says is in

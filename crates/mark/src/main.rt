@@ -8,21 +8,15 @@ use files::FILE_BYTES;
 use report::LINE_BYTES;
 
 fn main(rt: HostRuntime) {
-    let mut sheet = [0u8; FILE_BYTES];
-    let s = files::read(&rt, b"sheet.mtx", &mut sheet);
-    let mut limits = [0u8; FILE_BYTES];
-    let l = files::read(&rt, b"limits.mtx", &mut limits);
-    let mut plan = [0u8; FILE_BYTES];
-    let p = files::read(&rt, b"plan.mtx", &mut plan);
-    let mut prices = [0u8; FILE_BYTES];
-    let q = files::read(&rt, b"prices.mtx", &mut prices);
+    let mut sheet_buffer = [0u8; FILE_BYTES];
+    let sheet = files::read(&rt, b"sheet.mtx", &mut sheet_buffer);
+    let mut limits_buffer = [0u8; FILE_BYTES];
+    let limits = files::read(&rt, b"limits.mtx", &mut limits_buffer);
+    let mut plan_buffer = [0u8; FILE_BYTES];
+    let plan = files::read(&rt, b"plan.mtx", &mut plan_buffer);
+    let mut prices_buffer = [0u8; FILE_BYTES];
+    let prices = files::read(&rt, b"prices.mtx", &mut prices_buffer);
     let mut out = [0u8; LINE_BYTES];
-    let n = output::mark_output(
-        &sheet[..s],
-        &limits[..l],
-        &plan[..p],
-        &prices[..q],
-        &mut out,
-    );
-    files::write(&rt, &out, n);
+    let n = output::mark_output(sheet, limits, plan, prices, &mut out);
+    files::write(&rt, &out[..n]);
 }

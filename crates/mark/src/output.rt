@@ -1,27 +1,24 @@
 // What `mark` writes: how a subgraph (plan) measures against prices, or the first refusal.
-ghost use Rattle.std.specs.Prelude.{◌≡◌, ◌≤◌, length};
-ghost use Rattle.graph.specs.Refusal.{Outcome, told};
+ghost use Rattle.std.specs.Prelude.{◌≤◌, length};
 ghost use Rattle.graph.specs.Graph.{graph_of, vertices_in};
 ghost use Rattle.graph.specs.Passed.{SizesHold};
-ghost use Rattle.dual.specs.declared.Measures.{Measures};
-ghost use Rattle.dual.specs.Measure.{measure_says};
 ghost use Rattle.report.specs.declared.Source.TheVariants.{Input};
 ghost use Rattle.report.specs.Report.{measured_line, line_room, Composed};
 ghost use Rattle.report.specs.Programs.{came_from, written, mark_prices, mark_plan, mark_problem, mark_output};
 
-use dual::MeasureAnswer;
-use graph::{MOST_EDGES, MOST_NUMBERS, MOST_VERTICES, Shape};
-use layout::{Numbers, NumbersAnswer, SubgraphAnswer};
-use problem_reader::ProblemAnswer;
+use dual::Measures;
+use graph::{MOST_EDGES, MOST_NUMBERS, MOST_VERTICES, Refusal, Shape};
+use layout::Numbers;
+use problem_reader::SourceRefusal;
 use report::Source;
 
 // Writes the line of what the measuring answers.
-fn put_measured(answer: MeasureAnswer, out: &mut [u8]) -> usize
-    ensures { (o : Outcome Measures) → measure_says answer ≡ told o → Composed line_room (written measured_line (came_from Input o)) out.old out.new result }
+fn put_measured(answer: Result<Measures, Refusal>, out: &mut [u8]) -> usize
+    ensures { Composed line_room (written measured_line (came_from Input answer)) out.old out.new result }
 {
     match answer {
-        MeasureAnswer::Measured(m) => report::put_measures(out, m),
-        MeasureAnswer::Refused(refusal) => report::put_refused(out, Source::Input, refusal),
+        Ok(m) => report::put_measures(out, m),
+        Err(refusal) => report::put_refused(out, Source::Input, refusal),
     }
 }
 
@@ -39,11 +36,8 @@ fn mark_prices(
     requires { vertices_in s ≤ length price.now }
     ensures { Composed line_room (written measured_line (mark_prices (graph_of s row.now column.now weight.now) bound.now chosen.now price.now)) out.old out.new result }
 {
-    let n = graph::vertex_count(s) as usize;
-    let vertex_price = &price[..n];
-    let edge_price = &price[n..];
-    let words = [0u64; 1];
-    let empty = &words[..0];
+    let n = s.vertex_count() as usize;
+    let (vertex_price, edge_price) = price.split_at(n);
     let answer = measure::measure(
         s,
         row,
@@ -54,9 +48,9 @@ fn mark_prices(
         vertex_price,
         edge_price,
         0,
-        &price[..0],
-        empty,
-        empty,
+        &[],
+        &[],
+        &[],
     );
     put_measured(answer, out)
 }
@@ -75,21 +69,12 @@ fn mark_plan(
     requires { SizesHold s.kind s.rows s.columns s.edges }
     ensures { Composed line_room (written measured_line (mark_plan (graph_of s row.now column.now weight.now) bound.now chosen.now prices.now)) out.old out.new result }
 {
-    let count = graph::vertex_count(s) + s.edges as u64;
+    let count = s.vertex_count() + s.edges as u64;
     let size = count as usize;
     let mut price = [0i32; MOST_NUMBERS];
     match number_reader::read_numbers(prices, Numbers::Prices, count as u32, &mut price[..size]) {
-        NumbersAnswer::Refused(refusal) => report::put_refused(out, Source::Prices, refusal),
-        NumbersAnswer::Read => mark_prices(
-            s,
-            row,
-            column,
-            weight,
-            bound,
-            chosen,
-            &price[..size],
-            out,
-        ),
+        Err(refusal) => report::put_refused(out, Source::Prices, refusal),
+        Ok(()) => mark_prices(s, row, column, weight, bound, chosen, &price[..size], out),
     }
 }
 
@@ -110,8 +95,8 @@ fn mark_problem(
     let m = s.edges as usize;
     let mut chosen = [0u8; MOST_EDGES];
     match subgraph_reader::read_subgraph(plan, s, row, column, weight, &mut chosen[..m]) {
-        SubgraphAnswer::Refused(refusal) => report::put_refused(out, Source::Plan, refusal),
-        SubgraphAnswer::Read => mark_plan(s, row, column, weight, bound, &chosen[..m], prices, out),
+        Err(refusal) => report::put_refused(out, Source::Plan, refusal),
+        Ok(()) => mark_plan(s, row, column, weight, bound, &chosen[..m], prices, out),
     }
 }
 
@@ -133,9 +118,9 @@ pub fn mark_output(sheet: &[u8], limits: &[u8], plan: &[u8], prices: &[u8], out:
         &mut weight,
         &mut bound,
     ) {
-        ProblemAnswer::Refused { source, refusal } => report::put_refused(out, source, refusal),
-        ProblemAnswer::Read(s) => {
-            let n = graph::vertex_count(s) as usize;
+        Err(SourceRefusal { source, refusal }) => report::put_refused(out, source, refusal),
+        Ok(s) => {
+            let n = s.vertex_count() as usize;
             let m = s.edges as usize;
             mark_problem(
                 s,

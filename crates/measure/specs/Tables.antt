@@ -11,15 +11,15 @@ use Rattle.dual.specs.Sets.{load}
 use Rattle.dual.specs.Gap.{half_points, worth_at, pay_of, vertex_slack_at, chosen_covered, edge_slack}
 use Rattle.measure.specs.declared.Tables.{Tables}
 
--- The numbers of the tables, of n vertices and of the odd sets, are small enough to be added up.
-pub record Addable (n : ℕ) (T : Tables) : Type 0 where
+-- The numbers of the tables, of n vertices and of this many odd sets, are small enough to be added up.
+pub record Addable (n count : ℕ) (T : Tables) : Type 0 where
   pub degrees : (v : ℕ) → v < n → get_or T.degree v 0 ≤ 2 ^ 16
-  pub sets : (k : ℕ) → k < T.sets → (get_or T.load k 0 ≤ 2 ^ 16) × (get_or T.covered k 0 ≤ 2 ^ 16)
+  pub sets : (k : ℕ) → k < count → (get_or T.load k 0 ≤ 2 ^ 16) × (get_or T.covered k 0 ≤ 2 ^ 16)
 
 -- They are those of a subgraph and of at most 16 odd sets.
 pub record Tabled (g : Graph) (bound : List ℤ) (x : List ℕ) (P : Prices) (T : Tables) : Type 0 where
   pub few : P.sets ≤ most_sets
-  pub addable : Addable (vertices g) T
+  pub addable : Addable (vertices g) P.sets T
   pub degrees : (v : ℕ) → v < vertices g → get_or T.degree v 0 ≡ degree g x v
   pub loads : (k : ℕ) → k < P.sets → get_or T.load k 0 ≡ load g bound P.marks k
   pub covered : (k : ℕ) → k < P.sets → get_or T.covered k 0 ≡ chosen_covered g x P.marks k

@@ -1,65 +1,50 @@
 // The measuring call: a subgraph (plan) measured against prices.
-// The words `set_vertices`, 2 a set, mark vertices, and `set_edges`, 16 a set, mark edges.
 #![tactic(auto)]
 
-ghost use Rattle.std.specs.Prelude.{ℕ, ◌+◌, ◌*◌, ◌^◌, ◌≤◌, ◌<◌, ◌≡◌, true, ◌&&◌, [], ◌∷◌, eqb, pos, length, get_or};
+ghost use Rattle.std.specs.Prelude.{ℕ, ◌+◌, ◌*◌, ◌^◌, ◌≤◌, ◌<◌, ◌≡◌, true, ◌&&◌, [], ◌∷◌, eqb, pos, length, get_or, Ok};
 ghost use Rattle.std.specs.Int.Signed.{le_z};
 ghost use Rattle.integers.specs.Integer.{Within};
 ghost use Rattle.graph.specs.declared.Fault.TheVariants.{Degree};
 ghost use Rattle.graph.specs.Limits.{most_vertices, most_edges, vertex_words, edge_words};
-ghost use Rattle.graph.specs.Refusal.{yields, told, each, passing};
+ghost use Rattle.graph.specs.Refusal.{each, passing};
 ghost use Rattle.graph.specs.Graph.{graph_of, vertices_in, bound_at};
 ghost use Rattle.graph.specs.Passed.{Bounded, MarksHold};
 ghost use Rattle.dual.specs.Prices.{prices_of};
 ghost use Rattle.dual.specs.Measure as dual-measure;
-ghost use Rattle.dual.specs.Measure.{price_test, measure_says};
-ghost use Rattle.checks.specs.Checks.{check_says};
-ghost use Rattle.sums.specs.Lent.{PricesLent};
-ghost use Rattle.measure.specs.Shown.{subgraph_tests, SubgraphShown, yields_later, yields_covered};
+ghost use Rattle.dual.specs.Measure.{price_test};
+ghost use Rattle.sums.specs.Lent.{prices_in, PricesLent};
+ghost use Rattle.measure.specs.Shown.{lengths_besides, subgraph_tests, SubgraphShown, yields_later, yields_covered};
 ghost use Rattle.measure.specs.Tables.{Addable, Tabled, total_by, measures_by};
 
-use checks::Check;
-use dual::{MeasureAnswer, Measures};
+use dual::Measures;
 use graph::{
     EDGE_WORDS, Fault, MOST_EDGES, MOST_SETS, MOST_VERTICES, Refusal, Shape, VERTEX_WORDS,
 };
-use integers::both;
-use lowest::Lowest;
+use sets::OddSets;
+use sums::Prices;
 
-// The degrees, the number of odd sets, their loads, and how many chosen edges each of them covers.
+// The degrees, the loads of the odd sets, and how many chosen edges each of them covers.
 #[derive(Clone, Copy)]
 struct Tables {
     degree: [u32; MOST_VERTICES],
-    sets: u32,
     load: [u32; MOST_SETS],
     covered: [u32; MOST_SETS],
 }
 
 // Whether bounds, marks, prices and odd sets have just the lengths that n, m and the number of sets give.
-fn others_match(
-    s: Shape,
-    bound: &[i32],
-    chosen: &[u8],
-    vertex_price: &[i32],
-    edge_price: &[i32],
-    sets: u32,
-    set_price: &[i32],
-    set_vertices: &[u64],
-    set_edges: &[u64],
-) -> bool
-    ensures { result ≡ (eqb (length bound.now) (vertices_in s) && eqb (length chosen.now) s.edges && eqb (length vertex_price.now) (vertices_in s) && eqb (length edge_price.now) s.edges && eqb (length set_price.now) sets && eqb (length set_vertices.now) (vertex_words * sets) && eqb (length set_edges.now) (edge_words * sets)) }
+fn others_match(s: Shape, bound: &[i32], chosen: &[u8], prices: Prices) -> bool
+    ensures { result ≡ lengths_besides (graph_of s [] [] []) bound.now chosen.now (prices_in prices.entry) }
 {
-    let n = graph::vertex_count(s) as usize;
+    let n = s.vertex_count() as usize;
     let m = s.edges as usize;
-    let count = sets as usize;
-    let subgraph = both(bound.len() == n, chosen.len() == m);
-    let prices = both(
-        both(subgraph, vertex_price.len() == n),
-        edge_price.len() == m,
-    );
-    let words = set_vertices.len() == VERTEX_WORDS * count;
-    let odd = both(both(prices, set_price.len() == count), words);
-    both(odd, set_edges.len() == EDGE_WORDS * count)
+    let sets = prices.sets as usize;
+    bound.len() == n
+        && chosen.len() == m
+        && prices.vertex.len() == n
+        && prices.edge.len() == m
+        && prices.set.len() == sets
+        && prices.marks.vertices.len() == VERTEX_WORDS * sets
+        && prices.marks.edges.len() == EDGE_WORDS * sets
 }
 
 // The tests of the lengths, of which others tells the rest, of the graph's numbers, the bounds and the marks, in their order.
@@ -71,60 +56,34 @@ fn check_subgraph(
     bound: &[i32],
     chosen: &[u8],
     others: bool,
-) -> Check
+) -> Result<(), Refusal>
     requires { others ≡ true → (length bound.now ≡ vertices_in s) × (length chosen.now ≡ s.edges) }
-    ensures { check_says result ≡ passing (subgraph_tests (graph_of s row.now column.now weight.now) bound.now chosen.now others) (yields tt) }
+    ensures { result ≡ passing (subgraph_tests (graph_of s row.now column.now weight.now) bound.now chosen.now others) (Ok tt) }
 {
-    let graph = lent::check_lent(s, row, column, weight, others);
-    if let Check::Refused(r) = graph {
-        return Check::Refused(r);
-    }
-    if let Lowest::At(v) = lowest::lowest_bound(bound) {
-        return checks::refused_item(Fault::Bound, v);
-    }
-    if let Lowest::At(e) = lowest::lowest_mark(chosen) {
-        return checks::refused_item(Fault::Mark, e);
-    }
-    Check::Passed
+    lent::check_lent(s, row, column, weight, others)?;
+    checks::check_each(Fault::Bound, lowest::lowest_bound(bound))?;
+    checks::check_each(Fault::Mark, lowest::lowest_mark(chosen))
 }
 
 // The tests of the degrees and the prices, in their order.
-fn check_prices(
-    degree: [u32; MOST_VERTICES],
-    bound: &[i32],
-    vertex_price: &[i32],
-    edge_price: &[i32],
-    set_price: &[i32],
-) -> Check
-    requires { (length bound.now ≤ most_vertices) × (length vertex_price.now + (length edge_price.now + length set_price.now) < 2 ^ 40) }
-    ensures { check_says result ≡ passing (each Degree (length bound.now) (λ v. le_z (pos (get_or degree v 0)) (bound_at bound.now v)) ∷ price_test (prices_of vertex_price.now edge_price.now 0 set_price.now [] []) ∷ []) (yields tt) }
+fn check_prices(degree: [u32; MOST_VERTICES], bound: &[i32], prices: Prices) -> Result<(), Refusal>
+    requires { (length bound.now ≤ most_vertices) × (length prices.vertex.now + (length prices.edge.now + length prices.set.now) < 2 ^ 40) }
+    ensures { result ≡ passing (each Degree (length bound.now) (λ v. le_z (pos (get_or degree v 0)) (bound_at bound.now v)) ∷ price_test (prices_in prices.entry) ∷ []) (Ok tt) }
 {
-    if let Lowest::At(v) = lowest::lowest_over(degree, bound) {
-        return checks::refused_item(Fault::Degree, v);
-    }
-    if let Lowest::At(k) = lowest::lowest_price(vertex_price, edge_price, set_price) {
-        return checks::refused_item(Fault::Price, k);
-    }
-    Check::Passed
+    checks::check_each(Fault::Degree, lowest::lowest_over(degree, bound))?;
+    let broken = lowest::lowest_price(prices.vertex, prices.edge, prices.set);
+    checks::check_each(Fault::Price, broken)
 }
 
 // The prices' total.
-fn total_of(
-    s: Shape,
-    bound: &[i32],
-    vertex_price: &[i32],
-    edge_price: &[i32],
-    sets: u32,
-    set_price: &[i32],
-    load: [u32; MOST_SETS],
-) -> i64
+fn total_of(s: Shape, bound: &[i32], prices: Prices, load: [u32; MOST_SETS]) -> i64
     requires s_bound { (vertices_in s ≤ most_vertices) × Bounded (vertices_in s) bound.now × (s.edges ≤ most_edges) }
-    requires prices_lent { PricesLent s vertex_price.now edge_price.now sets set_price.now × ((k : ℕ) → k < sets → get_or load k 0 ≤ 2 ^ 16) }
-    ensures { (result ≡ total_by (graph_of s [] [] []) bound.now (prices_of vertex_price.now edge_price.now sets set_price.now [] []) load) × Within (2 ^ 60) result }
+    requires prices_lent { PricesLent s (prices_in prices) × ((k : ℕ) → k < prices.sets → get_or load k 0 ≤ 2 ^ 16) }
+    ensures { (result ≡ total_by (graph_of s [] [] []) bound.now (prices_in prices.entry) load) × Within (2 ^ 60) result }
 {
-    let vertices = sums::vertex_total(s, bound, vertex_price);
-    let odd = sums::set_total(sets, load, set_price);
-    let own = sums::edge_total(s.edges, edge_price);
+    let vertices = sums::vertex_total(s, bound, prices.vertex);
+    let odd = sums::set_total(prices.sets, load, prices.set);
+    let own = sums::edge_total(s.edges, prices.edge);
     terms::total_parts(vertices, odd, own)
 }
 
@@ -134,42 +93,25 @@ fn numbers(
     weight: &[i32],
     bound: &[i32],
     chosen: &[u8],
-    vertex_price: &[i32],
-    edge_price: &[i32],
-    set_price: &[i32],
+    prices: Prices,
     tables: Tables,
     cover: &[i64; MOST_EDGES],
 ) -> Measures
     requires s_bound { (vertices_in s ≤ most_vertices) × Bounded (vertices_in s) bound.now × (s.edges ≤ most_edges) × (length weight.now ≡ s.edges) × MarksHold s.edges chosen.now }
-    requires prices_lent { PricesLent s vertex_price.now edge_price.now tables.sets set_price.now × Addable (vertices_in s) tables × ((e : ℕ) → e < s.edges → Within (2 ^ 36) (get_or cover.now e (pos 0))) }
-    ensures { result ≡ measures_by (graph_of s [] [] weight.now) bound.now chosen.now (prices_of vertex_price.now edge_price.now tables.sets set_price.now [] []) tables cover.now }
+    requires prices_lent { PricesLent s (prices_in prices) × Addable (vertices_in s) prices.sets tables × ((e : ℕ) → e < s.edges → Within (2 ^ 36) (get_or cover.now e (pos 0))) }
+    ensures { result ≡ measures_by (graph_of s [] [] weight.now) bound.now chosen.now (prices_in prices.entry) tables cover.now }
 {
-    let degree = tables.degree;
-    let sets = tables.sets;
-    let load = tables.load;
-    let covered = tables.covered;
-    let total = total_of(s, bound, vertex_price, edge_price, sets, set_price, load);
+    let total = total_of(s, bound, prices, tables.load);
     let chosen_weight = sums::weight_of(s.edges, weight, chosen);
     Measures {
         weight: chosen_weight,
         total,
-        vertices: sums::vertex_slack(s, degree, bound, vertex_price),
-        sets: sums::set_slack(sets, load, covered, set_price),
-        edges: sums::edge_slack(s.edges, chosen, edge_price),
+        vertices: sums::vertex_slack(s, tables.degree, bound, prices.vertex),
+        sets: sums::set_slack(prices.sets, tables.load, tables.covered, prices.set),
+        edges: sums::edge_slack(s.edges, chosen, prices.edge),
         cover: sums::cover_slack(s.edges, cover, weight, chosen),
         gap: terms::gap_between(total, chosen_weight),
     }
-}
-
-// The answer that refuses item k, whose place counts from 1.
-fn refused_measure(fault: Fault, k: usize) -> MeasureAnswer
-    requires { k < 2 ^ 40 }
-    ensures { result ≡ MeasureAnswer.Refused (record { fault = fault; place = k + 1 }) }
-{
-    MeasureAnswer::Refused(Refusal {
-        fault,
-        place: k as u64 + 1,
-    })
 }
 
 // The end of the measuring call, from the tables: the test of the cover, and the numbers.
@@ -180,44 +122,20 @@ fn measure_tabled(
     weight: &[i32],
     bound: &[i32],
     chosen: &[u8],
-    vertex_price: &[i32],
-    edge_price: &[i32],
-    set_price: &[i32],
-    set_vertices: &[u64],
-    set_edges: &[u64],
+    prices: Prices,
     tables: Tables,
-) -> MeasureAnswer
-    requires subgraph_shown { SubgraphShown (graph_of s row.now column.now weight.now) bound.now chosen.now (prices_of vertex_price.now edge_price.now tables.sets set_price.now set_vertices.now set_edges.now) }
-    requires tabled { Tabled (graph_of s row.now column.now weight.now) bound.now chosen.now (prices_of vertex_price.now edge_price.now tables.sets set_price.now set_vertices.now set_edges.now) tables }
-    ensures { measure_says result ≡ told (yields_covered (graph_of s row.now column.now weight.now) bound.now chosen.now (prices_of vertex_price.now edge_price.now tables.sets set_price.now set_vertices.now set_edges.now)) }
+) -> Result<Measures, Refusal>
+    requires subgraph_shown { SubgraphShown (graph_of s row.now column.now weight.now) bound.now chosen.now (prices_in prices) }
+    requires tabled { Tabled (graph_of s row.now column.now weight.now) bound.now chosen.now (prices_in prices) tables }
+    ensures { result ≡ yields_covered (graph_of s row.now column.now weight.now) bound.now chosen.now (prices_in prices.entry) }
 {
-    let mut cover = [0i64; MOST_EDGES];
-    sums::cover_table(
-        s,
-        row,
-        column,
-        vertex_price,
-        edge_price,
-        tables.sets,
-        set_price,
-        set_vertices,
-        set_edges,
-        &mut cover,
-    );
-    if let Lowest::At(e) = sums::lowest_uncovered(s.edges, weight, &cover) {
-        return refused_measure(Fault::Uncovered, e);
-    }
-    MeasureAnswer::Measured(numbers(
-        s,
-        weight,
-        bound,
-        chosen,
-        vertex_price,
-        edge_price,
-        set_price,
-        tables,
-        &cover,
-    ))
+    let mut cover = [0; MOST_EDGES];
+    sums::cover_table(s, row, column, prices, &mut cover);
+    checks::check_each(
+        Fault::Uncovered,
+        sums::lowest_uncovered(s.edges, weight, &cover),
+    )?;
+    Ok(numbers(s, weight, bound, chosen, prices, tables, &cover))
 }
 
 // The rest of the measuring call, once the lengths, the graph, the bounds and the marks have passed: the tests of the degrees, the prices and the odd
@@ -229,48 +147,28 @@ fn measure_passed(
     weight: &[i32],
     bound: &[i32],
     chosen: &[u8],
-    vertex_price: &[i32],
-    edge_price: &[i32],
-    sets: u32,
-    set_price: &[i32],
-    set_vertices: &[u64],
-    set_edges: &[u64],
-) -> MeasureAnswer
-    requires { SubgraphShown (graph_of s row.now column.now weight.now) bound.now chosen.now (prices_of vertex_price.now edge_price.now sets set_price.now set_vertices.now set_edges.now) }
-    ensures { measure_says result ≡ told (yields_later (graph_of s row.now column.now weight.now) bound.now chosen.now (prices_of vertex_price.now edge_price.now sets set_price.now set_vertices.now set_edges.now)) }
+    prices: Prices,
+) -> Result<Measures, Refusal>
+    requires { SubgraphShown (graph_of s row.now column.now weight.now) bound.now chosen.now (prices_in prices) }
+    ensures { result ≡ yields_later (graph_of s row.now column.now weight.now) bound.now chosen.now (prices_in prices.entry) }
 {
     let degree = graph::degrees(s, row, column, chosen);
-    if let Check::Refused(r) = check_prices(degree, bound, vertex_price, edge_price, set_price) {
-        return MeasureAnswer::Refused(r);
-    }
-    let load = sets::load_table(s, bound, sets, set_vertices, set_edges);
-    if let Lowest::At(k) = sets::lowest_set(s, row, column, load, sets, set_vertices, set_edges) {
-        return refused_measure(Fault::OddSet, k);
-    }
-    let covered = sets::covered_table(s, row, column, chosen, sets, set_vertices, set_edges);
+    check_prices(degree, bound, prices)?;
+    let load = prices.marks.load_table(s, bound, prices.sets);
+    let broken = prices.marks.lowest_set(s, row, column, load, prices.sets);
+    checks::check_each(Fault::OddSet, broken)?;
+    let covered = prices
+        .marks
+        .covered_table(s, row, column, chosen, prices.sets);
     let tables = Tables {
         degree,
-        sets,
         load,
         covered,
     };
-    measure_tabled(
-        s,
-        row,
-        column,
-        weight,
-        bound,
-        chosen,
-        vertex_price,
-        edge_price,
-        set_price,
-        set_vertices,
-        set_edges,
-        tables,
-    )
+    measure_tabled(s, row, column, weight, bound, chosen, prices, tables)
 }
 
-// Measures a subgraph against prices.
+// Measures a subgraph against prices. Of odd sets the words `set_vertices`, 2 a set, mark vertices, and `set_edges`, 16 a set, mark edges.
 pub fn measure(
     s: Shape,
     row: &[u32],
@@ -284,36 +182,21 @@ pub fn measure(
     set_price: &[i32],
     set_vertices: &[u64],
     set_edges: &[u64],
-) -> MeasureAnswer
-    ensures { measure_says result ≡ told (dual-measure.measure (graph_of s row.now column.now weight.now) bound.now chosen.now (prices_of vertex_price.now edge_price.now sets set_price.now set_vertices.now set_edges.now)) }
+) -> Result<Measures, Refusal>
+    ensures { result ≡ dual-measure.measure (graph_of s row.now column.now weight.now) bound.now chosen.now
+        (prices_of vertex_price.now edge_price.now sets set_price.now set_vertices.now set_edges.now) }
 {
-    let others = others_match(
-        s,
-        bound,
-        chosen,
-        vertex_price,
-        edge_price,
+    let prices = Prices {
+        vertex: vertex_price,
+        edge: edge_price,
         sets,
-        set_price,
-        set_vertices,
-        set_edges,
-    );
-    let subgraph = check_subgraph(s, row, column, weight, bound, chosen, others);
-    if let Check::Refused(r) = subgraph {
-        return MeasureAnswer::Refused(r);
-    }
-    measure_passed(
-        s,
-        row,
-        column,
-        weight,
-        bound,
-        chosen,
-        vertex_price,
-        edge_price,
-        sets,
-        set_price,
-        set_vertices,
-        set_edges,
-    )
+        set: set_price,
+        marks: OddSets {
+            vertices: set_vertices,
+            edges: set_edges,
+        },
+    };
+    let others = others_match(s, bound, chosen, prices);
+    check_subgraph(s, row, column, weight, bound, chosen, others)?;
+    measure_passed(s, row, column, weight, bound, chosen, prices)
 }

@@ -7,7 +7,7 @@ use mathlib.Core.List.{List}
 use native.Mathlib.Omega.{arith}
 use native.Mathlib.Decide.{ℕ_discrete}
 use lib.Dec.{eqb}
-use Rattle.integers.specs.Sum.{sum, is}
+use Rattle.integers.specs.Sum.{is}
 use Rattle.integers.proofs.Sum.{is-other, sum-change, sum-const}
 use Rattle.graph.specs.Graph.{Graph, vertices}
 use Rattle.method.specs.Tree.{tail, head, slack}

@@ -1,41 +1,40 @@
 -- The lists that a search goes through: the kept edges of each row vertex, and the chosen edges of each column vertex; and what is kept between two
 -- searches.
-use Rattle.std.specs.Prelude.{ℕ, ◌+◌, ◌*◌, ◌-◌, ◌≤◌, ◌<◌, ◌≡◌, ◌≢◌, Bool, true, ◌||◌, List, ltb, length}
-use Rattle.graph.specs.Limits.{most_vertices, most_edges, greatest_bound}
+use Rattle.std.specs.Prelude.{ℕ, ◌+◌, ◌-◌, ◌≤◌, ◌<◌, ◌≡◌, ◌≢◌, Bool, true, ◌||◌, List, ltb, length, get_or}
+use Rattle.graph.specs.Limits.{greatest_bound}
 use Rattle.graph.specs.Graph.{Graph, vertices, first_end, second_end}
 use Rattle.graph.specs.Subgraph.{mark_at, degree}
 use Rattle.graph.specs.Index.{edges_of, offset}
 use Rattle.method.specs.Method.{weightless, value, Solvable, Good}
 use Rattle.method.specs.Tree.{entries}
+use Rattle.method.specs.declared.Table.{Table}
+use Rattle.method.specs.declared.KeptEdge.{KeptEdge}
 
--- The table of the vertices, four lists side by side: where the list of each vertex starts, where that of a row vertex stops, and its least and its most.
-abbrev pub starts : List ℕ → ℕ → ℕ
-starts table v = entries table v
+-- The table of the vertices: where the list of each vertex starts, where that of a row vertex stops, and its least and its most.
+abbrev pub starts : Table → ℕ → ℕ
+starts table v = entries table.start v
 
-abbrev pub stops : List ℕ → ℕ → ℕ
-stops table v = entries table (most_vertices + v)
+abbrev pub stops : Table → ℕ → ℕ
+stops table v = entries table.stop v
 
-abbrev pub leasts : List ℕ → ℕ → ℕ
-leasts table v = entries table (2 * most_vertices + v)
+abbrev pub leasts : Table → ℕ → ℕ
+leasts table v = entries table.least v
 
-abbrev pub mosts : List ℕ → ℕ → ℕ
-mosts table v = entries table (3 * most_vertices + v)
+abbrev pub mosts : Table → ℕ → ℕ
+mosts table v = entries table.most v
 
-abbrev pub most_table : ℕ
-most_table = 4 * most_vertices
+-- The list of the kept edges: at each place an edge, its column vertex, and its weight two levels up.
+abbrev pub kept_at : List KeptEdge → ℕ → KeptEdge
+kept_at kept k = get_or kept k (record { edge = 0; head = 0; value = 0 })
 
--- The list of the kept edges, three lists side by side: an edge, its column vertex, and its weight two levels up.
-abbrev pub edges : List ℕ → ℕ → ℕ
-edges arc k = entries arc k
+abbrev pub edges : List KeptEdge → ℕ → ℕ
+edges kept k = (kept_at kept k).edge
 
-abbrev pub heads : List ℕ → ℕ → ℕ
-heads arc k = entries arc (most_edges + k)
+abbrev pub heads : List KeptEdge → ℕ → ℕ
+heads kept k = (kept_at kept k).head
 
-abbrev pub values : List ℕ → ℕ → ℕ
-values arc k = entries arc (2 * most_edges + k)
-
-abbrev pub most_arcs : ℕ
-most_arcs = 3 * most_edges
+abbrev pub values : List KeptEdge → ℕ → ℕ
+values kept k = (kept_at kept k).value
 
 -- Edge e is kept: its weight is above 0, or an end of it has a least above 0. No other is needed.
 abbrev pub keeps : Graph → (ℕ → ℕ) → ℕ → Bool
@@ -96,9 +95,9 @@ nowhere g = g.edges
 
 -- What every search is lent and leaves as it is: a graph that can be solved, its kept edges, where the lists of its column vertices start, and a list with
 -- a place for each edge.
-pub record Given (g : Graph) (arc table : List ℕ) (places : ℕ) : Type 0 where
+pub record Given (g : Graph) (kept_edges : List KeptEdge) (table : Table) (places : ℕ) : Type 0 where
   pub net : Solvable g
-  pub kept : Kept g (keeps g (leasts table)) (starts table) (stops table) (edges arc) (heads arc) (values arc) g.rows
+  pub kept : Kept g (keeps g (leasts table)) (starts table) (stops table) (edges kept_edges) (heads kept_edges) (values kept_edges) g.rows
   pub begins : (c : ℕ) → g.rows ≤ c → c < vertices g → starts table c ≡ start_in g c
   pub room : g.edges ≤ places
 
@@ -107,10 +106,3 @@ pub record Between (g : Graph) (least most : ℕ → ℕ) (x : List ℕ) (price 
   pub good : Good g least most x price
   pub degrees : Degrees g least most x used
   pub lists : Listing g x (degree g x) list place (nowhere g)
-
--- The arrays of what is kept, and the one that each search lists vertices in, are long enough for a graph of m edges.
-pub record Arrays (m : ℕ) (price used place order : List ℕ) : Type 0 where
-  pub price_long : length price ≡ most_vertices
-  pub used_long : length used ≡ most_vertices
-  pub place_long : m ≤ length place
-  pub order_long : length order ≡ most_vertices + 1

@@ -1,14 +1,14 @@
 // The state of a search, and what is read of weights and edges.
 #![tactic(auto)]
 
-ghost use Rattle.std.specs.Prelude.{◌+◌, ◌*◌, ◌<◌, ◌≡◌, [], pos, ◌+ℤ◌, length, get_or, replicate};
+ghost use Rattle.std.specs.Prelude.{◌+◌, ◌*◌, ◌<◌, ◌≡◌, [], pos, ◌+ℤ◌, length, get_or};
 ghost use Rattle.integers.specs.Integer.{up, Within};
-ghost use Rattle.graph.specs.Limits.{most_vertices, greatest_weight};
+ghost use Rattle.graph.specs.Limits.{greatest_weight};
 ghost use Rattle.graph.specs.Graph.{graph_of, first_end, second_end};
 ghost use Rattle.graph.specs.Passed.{Sound};
 ghost use Rattle.method.specs.Method.{weightless};
 
-use graph::{Ends, GREATEST_WEIGHT, MOST_EDGES, MOST_VERTICES, Shape};
+use graph::{Ends, GREATEST_WEIGHT, MOST_VERTICES, Shape};
 
 // The level stands for the price 0: prices are kept one level up, and weights two. It is the greatest weight as many times as there can be vertices.
 pub const LEVEL: u32 = MOST_VERTICES as u32 * GREATEST_WEIGHT as u32;
@@ -27,37 +27,35 @@ pub const SHUT: u32 = FAR + 2 * LEVEL;
 // The list of the vertices reached has a place more than there are vertices.
 pub const MOST_LISTED: usize = MOST_VERTICES + 1;
 
-// The table of the vertices: where the list of each starts, and behind these numbers where that of a row vertex stops, its least and its most.
-pub const STOPS: usize = MOST_VERTICES;
+// What the searches read of the vertices: where the list of each starts, where that of a row vertex stops, and the least and the most of each.
+#[derive(Clone, Copy)]
+pub struct Table {
+    pub start: [u32; MOST_VERTICES],
+    pub stop: [u32; MOST_VERTICES],
+    pub least: [u32; MOST_VERTICES],
+    pub most: [u32; MOST_VERTICES],
+}
 
-pub const LEASTS: usize = 2 * MOST_VERTICES;
+// An edge that is kept for the searches, with its column vertex, and its weight two levels up.
+#[derive(Clone, Copy)]
+pub struct KeptEdge {
+    pub edge: u32,
+    pub head: u32,
+    pub value: u32,
+}
 
-pub const MOSTS: usize = 3 * MOST_VERTICES;
+// What changes from search to search of the vertices: the price of each, and how many chosen edges it has.
+#[derive(Clone, Copy)]
+pub struct State {
+    pub price: [u32; MOST_VERTICES],
+    pub used: [u32; MOST_VERTICES],
+}
 
-pub const MOST_TABLE: usize = 4 * MOST_VERTICES;
-
-// The list of the kept edges: the edges, and behind them their column vertices and their weights two levels up.
-pub const HEADS: usize = MOST_EDGES;
-
-pub const VALUES: usize = 2 * MOST_EDGES;
-
-pub const MOST_ARCS: usize = 3 * MOST_EDGES;
-
-// The search's state: the labels of the vertices, which are edges, and the end of the path, a number that is no vertex until one is found.
+// What a search has found: the labels of the vertices, which are edges, and the end of the path.
 #[derive(Clone, Copy)]
 pub struct Tree {
     pub label: [u32; MOST_VERTICES],
     pub end: usize,
-}
-
-// The state before a search.
-pub fn unlabelled() -> Tree
-    ensures { (result.label ≡ replicate most_vertices 0) × (result.end ≡ most_vertices) }
-{
-    Tree {
-        label: [0u32; MOST_VERTICES],
-        end: MOST_VERTICES,
-    }
 }
 
 // The weight of edge e, two levels up.
@@ -74,5 +72,5 @@ pub fn ends_at(s: Shape, row: &[u32], column: &[u32], e: usize) -> Ends
     requires e_lt_edges { e < s.edges }
     ensures { (result.first ≡ first_end (graph_of s row.now column.now []) e) × (result.second ≡ second_end (graph_of s row.now column.now []) e) }
 {
-    graph::ends_of(s, row[e], column[e])
+    s.ends_of(row[e], column[e])
 }

@@ -1,3 +1,2 @@
-pub mod OnLine
 pub mod Values
 pub mod Whole

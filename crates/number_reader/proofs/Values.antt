@@ -1,115 +1,118 @@
 -- The number reader's loop, on plain values: the output holds the numbers read so far, and then 0.
-use Prim.Native.Nat.{ℕ, ◌+◌, ◌^◌, ◌<◌, ◌≤◌}
-use mathlib.Core.Path.{◌≡◌, refl, sym, ap, ap₂, ◌∙◌, subst}
-use mathlib.Core.Bool.{true}
+use Rattle.std.specs.Prelude.{Ok, Err, Result, Some, None}
+use Prim.Native.Nat.{ℕ, ◌+◌, ◌<◌, ◌≤◌}
+use mathlib.Core.Path.{◌≡◌, refl, sym, ap, ap₂, ◌∙◌}
+use mathlib.Core.Bool.{Bool, cond}
 use mathlib.Core.List.{List, [], ◌∷◌, ◌++◌}
 use native.Mathlib.Omega.{arith}
-use lib.Dec.{ltb, lit<}
-use lib.IntN.{ℤ, pos, negsuc}
-use lib.Signed.{◌≤ℤ◌}
-use lib.ListN.{length, set, length-set, length-append, replicate}
+use lib.Dec.{ltb}
+use lib.IntN.{ℤ, pos}
+use lib.ListN.{length, set, length-append, replicate}
 use borrow.Author.Tests.{ltb-true}
-use mir.Syntax.{w32}
-use mir.Val.{SFits, to_z, of_z}
-use mir.Facts.{to_z-of_z}
-use Rattle.integers.specs.Integer.{Within, between}
-use Rattle.integers.proofs.Order.{order, between-true, fits_within}
 use Rattle.graph.specs.declared.Refusal.{Refusal}
 use Rattle.graph.specs.declared.Fault.{Fault}
-use Rattle.graph.specs.Limits.{greatest_bound, greatest_price, greatest_old_price}
-use Rattle.graph.specs.Refusal.{Outcome, yields, refuses, told, reported, filled}
+use Rattle.graph.specs.declared.Fault.TheVariants.{Header}
+use Rattle.graph.specs.Refusal.{Outcome, refuses, reported, filled}
+use Rattle.graph.proofs.Passing.{zero_one}
 use Rattle.layout.specs.declared.Rules.{Rules}
-use Rattle.layout.specs.declared.Rules.TheVariants.{New, Old}
 use Rattle.layout.specs.declared.Numbers.{Numbers}
-use Rattle.layout.specs.declared.Numbers.TheVariants.{Bounds, Prices}
-use Rattle.layout.specs.declared.NumbersAnswer.{NumbersAnswer}
-use Rattle.layout.specs.declared.NumbersAnswer.TheVariants as NumbersAnswer
-use Rattle.layout.specs.Text.{words, integer, one_word}
-use Rattle.layout.specs.Lines.{reading, read_text}
-use Rattle.layout.specs.NumberText.{in_range, number_value, number_layout}
+use Rattle.layout.specs.Text.{bytes, header, words, natural, integer, one_word, two_words}
+use Rattle.layout.specs.Lines.{Step, goes, stops, sizing, reading, read_text}
+use Rattle.layout.specs.NumberText.{number_header, number_sizes, number_value, number_layout}
 use Rattle.text.specs.declared.Cursor.{Cursor}
-use Rattle.lines.specs.declared.Later.{Later}
-use Rattle.lines.specs.declared.Later.TheVariants as Later
+use Rattle.text.specs.declared.Line.{Line}
 use Rattle.lines.specs.Found.{part}
-use Rattle.lines.specs.Walk.{LaterAs, later_met, Walk}
-use Rattle.lines.proofs.Walk.{later_found, later_refused, later_yields, later_goes, later_stops}
-use Rattle.lent.proofs.Filling.{filled_none, filled_more, filled-length, holds_refused, holds_yields}
-use Rattle.number_reader.specs.OnLine.{value_says, ValueInRange, NumbersReading}
-use Rattle.number_reader.specs.declared.NumberLine.{NumberLine}
-use Rattle.number_reader.specs.declared.NumberLine.TheVariants as NumberLine
-
--- A number in range fits an `i32`.
-small : (m : ℕ) (z : ℤ) → pos 0 ≤ℤ z → z ≤ℤ pos m → Within m z
-small m (pos n) p q = omega order
-small m (negsuc n) p q = omega order
-
-range_fits : (rules : Rules) (what : Numbers) (z : ℤ) → in_range rules what z ≡ true → SFits w32 z
-range_fits rules what z e = go what rules e
-  where
-    to : (m : ℕ) → m < 2 ^ 31 → between (pos 0) (pos m) z ≡ true → SFits w32 z
-    to m l e = let w = between-true (pos 0) (pos m) z e in fits_within w32 z (small m z w.0 w.1) l
-
-    go : (what : Numbers) (rules : Rules) → in_range rules what z ≡ true → SFits w32 z
-    go Bounds rules e = to greatest_bound (lit< tt) e
-    go Prices New e = to greatest_price (lit< tt) e
-    go Prices Old e = to greatest_old_price (lit< tt) e
+use Rattle.lines.specs.Walk.{OpenedAs, LaterAs, size_met, later_met, Walk}
+use Rattle.lines.proofs.Walk.{size_goes, size_stops, later_refused, later_yields, later_goes, later_stops}
+use Rattle.lent.proofs.Filling.{filled_none, filled_more, holds_refused, holds_yields}
+use Rattle.number_reader.specs.OnLine.{count_says, value_says, NumbersReading}
 
 -- A refusal reports itself, whatever the output holds.
 pub read_refused : {rules : Rules} {what : Numbers} {n : ℕ} {s : List ℕ} {out : List ℤ} (x : Refusal) →
-    refuses x.fault x.place ≡ read_text (number_layout rules what n) s → NumbersReading rules what n s (NumbersAnswer.Refused x) out
-read_refused x e = record { says = ap (λ (o : Outcome (List ℤ)). told (reported (λ zs. tt {0}) o)) e; holds = holds_refused (sym e) }
+    refuses x.fault x.place ≡ read_text (number_layout rules what n) s → {y : Outcome (Unit {0})} → y ≡ Err x → NumbersReading rules what n s y out
+read_refused x e same = record { says = same ∙ ap (λ (o : Outcome (List ℤ)). (reported (λ zs. tt {0}) o)) e; holds = holds_refused (sym e) }
 
--- The loop has read i numbers of n, into an output as long as at the start.
-pub record NumberTurn (rules : Rules) (what : Numbers) (n : ℕ) (s : List ℕ) (j : ℕ) (out : List ℤ) (c : Cursor) (i : ℕ) : Type 0 where
+-- What a line does, as an answer that has its place.
+abbrev pub placed : {A : Type 0} → Cursor → Result A Fault → Outcome A
+placed d (Ok a) = Ok a
+placed d (Err f) = refuses f d.line
+
+-- The header line is right where b says so.
+pub header_does : (l : List ℕ) {b : Bool} → b ≡ header (bytes "matrix" ∷ bytes "array" ∷ bytes "integer" ∷ bytes "general" ∷ []) l → {t : Bool} → b ≡ t →
+    number_header l ≡ cond t (goes tt) (stops Header)
+header_does l says is = ap (λ (x : Bool). cond {A = Step (Unit {0})} x (goes tt) (stops Header)) (sym says ∙ is)
+
+-- The size line tells the count that is asked for, or is refused.
+module _ (rules : Rules) (what : Numbers) (n : ℕ) {s : List ℕ} {c : Cursor} (w : Walk (number_layout rules what n) s c (sizing tt)) {l : Line}
+    (F : OpenedAs s c (size_met s c) (Ok l)) where
+  abbrev Counts : Result (Unit {0}) Fault → Type 0
+  Counts r = count_says r ≡ number_sizes n (two_words (natural rules) (natural rules) (words (part s l.start l.end)))
+
+  pub size_read : (r : Result (Unit {0}) Fault) → Counts r → {u : Unit {0}} → Ok u ≡ placed l.next r → Walk (number_layout rules what n) s l.next (reading [])
+  size_read (Ok tt) does it = size_goes (number_layout rules what n) w F [] (sym does)
+  size_read (Err f) does it = zero_one (cc)
+
+  pub size_wrong : (r : Result (Unit {0}) Fault) → Counts r → {x : Refusal} → Err x ≡ placed l.next r → {y : Outcome (Unit {0})} → y ≡ Err x →
+      {out : List ℤ} → NumbersReading rules what n s y out
+  size_wrong (Ok tt) does it same = zero_one (cc)
+  size_wrong (Err f) does {x} it same = read_refused x (size_stops (number_layout rules what n) w F f (sym does) cc) same
+
+-- The loop has read i numbers of n.
+pub record NumberTurn (rules : Rules) (what : Numbers) (n : ℕ) (s : List ℕ) (out : List ℤ) (c : Cursor) (i : ℕ) : Type 0 where
   pub read : List ℤ
   pub walk : Walk (number_layout rules what n) s c (reading read)
   pub count : length read ≡ i
   pub room : i ≤ n
   pub holds : out ≡ filled n (pos 0) read
-  pub same : length out ≡ j
 
 pub turn_starts : {rules : Rules} {what : Numbers} {n : ℕ} {s : List ℕ} {out : List ℤ} {c : Cursor} → Walk (number_layout rules what n) s c (reading []) →
-    out ≡ replicate n (pos 0) → NumberTurn rules what n s (length out) out c 0
-turn_starts {n = n} w z = record { read = []; walk = w; count = refl; room = omega arith; holds = z ∙ filled_none n (pos 0); same = refl }
+    out ≡ replicate n (pos 0) → NumberTurn rules what n s out c 0
+turn_starts {n = n} w z = record { read = []; walk = w; count = refl; room = omega arith; holds = z ∙ filled_none n (pos 0) }
 
-module _ {rules : Rules} {what : Numbers} {n : ℕ} {s : List ℕ} {j : ℕ} {out : List ℤ} {c : Cursor} {i : ℕ} (T : NumberTurn rules what n s j out c i) where
-  pub turn_length : length out ≡ n
-  turn_length = ap length T.holds ∙ filled-length n (pos 0) T.read (omega (arith, T.count, T.room))
+module _ {rules : Rules} {what : Numbers} {n : ℕ} {s : List ℕ} {out : List ℤ} {c : Cursor} {i : ℕ} (T : NumberTurn rules what n s out c i) where
+  right : ltb (length T.read) n ≡ ltb i n
+  right = ap (λ k. ltb k n) T.count
 
   -- What comes next says what reading yields.
-  module _ {r : Later} (F : LaterAs s c (ltb i n) (later_met s c (ltb i n)) r) where
-    right : ltb (length T.read) n ≡ ltb i n
-    right = ap (λ k. ltb k n) T.count
+  pub turn_done : LaterAs s c (ltb i n) (later_met s c (ltb i n)) (Ok None) → NumbersReading rules what n s (Ok tt) out
+  turn_done F =
+      let e : Ok T.read ≡ read_text (number_layout rules what n) s = later_yields (number_layout rules what n) T.walk right F in
+      record { says = ap (λ (o : Outcome (List ℤ)). (reported (λ zs. tt {0}) o)) e; holds = holds_yields (sym e) T.holds }
 
-    pub turn_done : r ≡ Later.Done → NumbersReading rules what n s NumbersAnswer.Read out
-    turn_done is =
-        let e : yields T.read ≡ read_text (number_layout rules what n) s = later_yields (number_layout rules what n) T.walk right F is in
-        record { says = ap (λ (o : Outcome (List ℤ)). told (reported (λ zs. tt {0}) o)) e; holds = holds_yields (sym e) T.holds }
+  pub turn_refused : {x : Refusal} → LaterAs s c (ltb i n) (later_met s c (ltb i n)) (Err x) → {y : Outcome (Unit {0})} → y ≡ Err x →
+      NumbersReading rules what n s y out
+  turn_refused {x} F same = read_refused x (later_refused (number_layout rules what n) T.walk right F) same
 
-    pub turn_refused : {x : Refusal} → r ≡ Later.Refused x → NumbersReading rules what n s (NumbersAnswer.Refused x) out
-    turn_refused {x} is = read_refused x (later_refused (number_layout rules what n) T.walk right F is)
+  module _ {l : Line} (F : LaterAs s c (ltb i n) (later_met s c (ltb i n)) (Ok (Some l))) where
+    pub turn_below : i < n
+    turn_below = ltb-true i n F.inside.1
 
-    module _ {a e : ℕ} {d : Cursor} (is : r ≡ Later.At a e d) where
-      pub turn_below : i < n
-      turn_below = ltb-true i n (later_found F is).1
+    -- The line tells r.
+    module _ (r : Result ℤ Fault) (does : (zs : List ℤ) → value_says zs r ≡ number_value rules what zs (one_word (integer rules) (words (part s l.start l.end)))) where
+      pub turn_stops : {x : Refusal} → Err x ≡ placed l.next r → {y : Outcome (Unit {0})} → y ≡ Err x → NumbersReading rules what n s y out
+      turn_stops {x} it {y} same = go r does it
+        where
+          go : (r : Result ℤ Fault) → ((zs : List ℤ) → value_says zs r ≡ number_value rules what zs (one_word (integer rules) (words (part s l.start l.end)))) →
+              Err x ≡ placed l.next r → NumbersReading rules what n s y out
+          go (Ok z) does it = zero_one (cc)
+          go (Err f) does it = read_refused x (later_stops (number_layout rules what n) T.walk right F f (sym (does T.read)) cc) same
 
-      module _ {l : NumberLine} (does : (zs : List ℤ) → value_says zs l ≡ number_value rules what zs (one_word (integer rules) (words (part s a e)))) where
-        pub turn_stops : {f : Fault} → l ≡ NumberLine.Refused f → {x : Refusal} → x ≡ record { fault = f; place = d.line } →
-            NumbersReading rules what n s (NumbersAnswer.Refused x) out
-        turn_stops {f} it {x} same =
-            read_refused x (later_stops (number_layout rules what n) T.walk right F is f (sym (does T.read) ∙ ap (value_says T.read) it) same)
-
-        pub turn_takes : {z : ℤ} → l ≡ NumberLine.Is z → ValueInRange rules what l → NumberTurn rules what n s j (set out i (to_z w32 (of_z w32 z))) d (i + 1)
-        turn_takes {z} it ranged =
-            let b = turn_below in
-            record {
-              read = T.read ++ (z ∷ []);
-              walk = later_goes (number_layout rules what n) T.walk right F is (T.read ++ (z ∷ [])) (sym (does T.read) ∙ ap (value_says T.read) it);
-              count = length-append T.read (z ∷ []) ∙ ap (λ k. k + 1) T.count;
-              room = omega (arith, b);
-              holds =
-                  ap₂ (λ (xs : List ℤ) (x : ℤ). set xs i x) T.holds (to_z-of_z {w = w32} (range_fits rules what z (subst (ValueInRange rules what) it ranged)))
-                  ∙ ap (λ k. set (filled n (pos 0) T.read) k z) (sym T.count)
-                  ∙ filled_more n (pos 0) T.read z (omega (arith, b, T.count));
-              same = length-set out i (to_z w32 (of_z w32 z)) ∙ T.same;
-            }
+      pub turn_takes : {z : ℤ} → Ok z ≡ placed l.next r → {y : ℤ} → y ≡ z → NumberTurn rules what n s (set out i y) l.next (i + 1)
+      turn_takes {z} it {y} same = go r does it
+        where
+          go : (r : Result ℤ Fault) → ((zs : List ℤ) → value_says zs r ≡ number_value rules what zs (one_word (integer rules) (words (part s l.start l.end)))) →
+              Ok z ≡ placed l.next r → NumberTurn rules what n s (set out i y) l.next (i + 1)
+          go (Err f) does it = zero_one (cc)
+          go (Ok w) does it =
+              let b = turn_below in
+              let e : w ≡ z = cc in
+              record {
+                read = T.read ++ (w ∷ []);
+                walk = later_goes (number_layout rules what n) T.walk right F (T.read ++ (w ∷ [])) (sym (does T.read));
+                count = length-append T.read (w ∷ []) ∙ ap (λ k. k + 1) T.count;
+                room = omega (arith, b);
+                holds =
+                    ap₂ (λ (xs : List ℤ) (x : ℤ). set xs i x) T.holds (same ∙ sym e)
+                    ∙ ap (λ k. set (filled n (pos 0) T.read) k w) (sym T.count)
+                    ∙ filled_more n (pos 0) T.read w (omega (arith, b, T.count));
+              }

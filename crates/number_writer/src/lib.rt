@@ -1,42 +1,37 @@
 // Writes bounds (limits) or prices as a Matrix Market text.
 #![tactic(auto)]
 
-ghost use Rattle.std.specs.Prelude.{◌≡◌, [], ◌∷◌, ◌++◌, map, ◌+◌, ◌*◌, ◌≤◌, length, replicate};
+ghost use Rattle.std.specs.Prelude.{◌≡◌, [], ◌∷◌, ◌++◌, map, ◌+◌, ◌*◌, ◌≤◌, length};
 ghost use Rattle.graph.specs.Limits.{most_vertices, most_edges, longest_text};
 ghost use Rattle.layout.specs.Text.{bytes, decimal, signed, spaced, unlines};
 ghost use Rattle.layout.specs.NumberText.{number_text};
-ghost use Rattle.digits.specs.Puts.{Puts};
+ghost use Rattle.digits.specs.Appends.{Appends};
 ghost use Rattle.writer.specs.Written.{Written};
 
-use digits::put_field;
+use digits::Writer;
 
-// Clears `out`, and writes the header line and the size line at its start. The result is the place after them.
-fn put_array_head(out: &mut [u8], count: u64) -> usize
-    requires { 86 ≤ length out.old }
-    ensures { Puts (replicate (length out.old) 0) 0 (unlines (bytes "%%MatrixMarket matrix array integer general"
-        ∷ spaced (decimal count ∷ decimal 1 ∷ []) ∷ [])) out.new result × (result ≤ 86) }
+// Writes the header line and the size line.
+fn put_array_head(w: &mut Writer, count: u64)
+    requires { w.old.at + 86 ≤ length w.old.out.now }
+    ensures written { Appends w.old (unlines (bytes "%%MatrixMarket matrix array integer general"
+        ∷ spaced (decimal count ∷ decimal 1 ∷ []) ∷ [])) w.new }
+    ensures within { w.new.at ≤ w.old.at + 86 }
 {
-    filling::clear_bytes(out);
-    let a = writer::put_bytes(out, 0, b"%%MatrixMarket matrix array integer general\n");
-    let b = put_field(out, a, count, 32);
-    put_field(out, b, 1, 10)
+    w.bytes(b"%%MatrixMarket matrix array integer general\n");
+    w.field(count, b' ');
+    w.field(1, b'\n');
 }
 
-// Writes the numbers, one a line, from `start` on. The result is the place after them.
-fn put_values(out: &mut [u8], start: usize, values: &[i32]) -> usize
-    requires { start + length values.now * 22 ≤ length out.old }
-    ensures { Puts out.old start (unlines (map signed values.now)) out.new result
-        × (result ≤ start + length values.now * 22) }
+// Writes the numbers, one a line.
+fn put_values(w: &mut Writer, values: &[i32])
+    requires { w.old.at + length values.now * 22 ≤ length w.old.out.now }
+    ensures written { Appends w.old (unlines (map signed values.now)) w.new }
+    ensures within { w.new.at ≤ w.old.at + length values.now * 22 }
 {
-    let mut at = start;
-    let mut k = 0;
-    while k < values.len() {
-        let end = digits::put_signed(out, at, integers::element(values, k));
-        out[end] = 10;
-        at = end + 1;
-        k += 1;
+    for value in values {
+        w.signed(i64::from(*value));
+        w.byte(b'\n');
     }
-    at
 }
 
 // Writes the text of the numbers of both lists to `out`, 0 after its end. The result is its length.
@@ -45,8 +40,9 @@ pub fn put_numbers(out: &mut [u8], first: &[i32], rest: &[i32]) -> usize
     requires first_len_bound { (length first.now ≤ most_vertices) × (length rest.now ≤ most_edges) }
     ensures { Written longest_text (number_text (first.now ++ rest.now)) out.new result }
 {
-    let count = first.len() + rest.len();
-    let a = put_array_head(out, count as u64);
-    let b = put_values(out, a, first);
-    put_values(out, b, rest)
+    let mut w = Writer::cleared(out);
+    put_array_head(&mut w, (first.len() + rest.len()) as u64);
+    put_values(&mut w, first);
+    put_values(&mut w, rest);
+    w.at
 }

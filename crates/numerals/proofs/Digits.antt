@@ -1,8 +1,8 @@
 -- The number that digits make, for the loop that reads it, and the leading zero.
+use Rattle.std.specs.Prelude.{None, Some}
 use mathlib.Core.Path.{◌≡◌, refl, ap, ◌∙◌}
 use mathlib.Core.Bool.{Bool, true, false, cond, and-false}
 use mathlib.Core.List.{List}
-use mathlib.Core.Option.{none, some}
 use Prim.Native.Nat.{ℕ, suc, ◌+◌, ◌*◌, ◌-◌, ◌^◌, ◌≤◌, ◌<◌}
 use native.Mathlib.Nat.{pow-suc, pow-le-pow_right}
 use native.Mathlib.Numerals.{add-one}
@@ -15,26 +15,17 @@ use Rattle.layout.specs.declared.Rules.{Rules}
 use Rattle.layout.specs.declared.Rules.TheVariants.{New, Old}
 use Rattle.layout.specs.Text.{digit, digits_after, numeral, natural}
 use Rattle.spelling.specs.Spelling.{zero_refused}
-use Rattle.layout.proofs.Digits.{after_nil, after_yes, after_no}
-
-pub digit-yes : (d : ℕ) → 48 ≤ d → d ≤ 57 → digit d ≡ true
-digit-yes d h k = simp (le-leb 48 d h, le-leb d 57 k)
-
-digit_low : (d : ℕ) → d < 48 → digit d ≡ false
-digit_low d h = simp (lt-leb 48 d h)
-
-digit-high : (d : ℕ) → 57 < d → digit d ≡ false
-digit-high d h = simp (lt-leb d 57 h, and-false)
+use Rattle.layout.proofs.Digits.{after_nil, after_yes, after_no, digit-in}
 
 pub numeral-in : (w : List ℕ) → 1 ≤ length w → length w ≤ 9 → numeral w ≡ digits_after 0 w
 unfolding numeral
 numeral-in w h k = simp (le-leb 1 (length w) h, le-leb (length w) 9 k)
 
-pub numeral-short : (w : List ℕ) → length w < 1 → numeral w ≡ none
+pub numeral-short : (w : List ℕ) → length w < 1 → numeral w ≡ None
 unfolding numeral
 numeral-short w h = simp (lt-leb 1 (length w) h)
 
-pub numeral-long : (w : List ℕ) → 9 < length w → numeral w ≡ none
+pub numeral-long : (w : List ℕ) → 9 < length w → numeral w ≡ None
 unfolding numeral
 numeral-long w h = simp (lt-leb (length w) 9 h, and-false)
 
@@ -60,26 +51,25 @@ module _ (w : List ℕ) (n i : ℕ) (r : Reading w n i) where
       let h : 10 ^ i ≤ 10 ^ 8 = pow-le-pow_right (lit< tt) k in
       omega arith
 
-  pub reading_low : i < length w → get_or w i 0 < 48 → numeral w ≡ none
-  reading_low lt h = whole ∙ rw (drop-cons w i 0 lt) (after_no n (get_or w i 0) (drop (suc i) w) (digit_low (get_or w i 0) h))
+  pub reading_stops : i < length w → digit (get_or w i 0) ≡ false → numeral w ≡ None
+  reading_stops lt h = whole ∙ rw (drop-cons w i 0 lt) (after_no n (get_or w i 0) (drop (suc i) w) h)
 
-  pub reading_high : i < length w → 57 < get_or w i 0 → numeral w ≡ none
-  reading_high lt h = whole ∙ rw (drop-cons w i 0 lt) (after_no n (get_or w i 0) (drop (suc i) w) (digit-high (get_or w i 0) h))
+  pub reading_more : i < length w → digit (get_or w i 0) ≡ true → Reading w (n * 10 + (get_or w i 0 - 48)) (i + 1)
+  reading_more lt h =
+      let k = digit-in (get_or w i 0) h in
+      record {
+        some_digits = r.some_digits;
+        few_digits = r.few_digits;
+        within = omega arith;
+        small = rw (add-one, pow-suc) (omega (arith, k));
+        rest = r.rest ∙ rw (drop-cons w i 0 lt, add-one) (after_yes n (get_or w i 0) (drop (suc i) w) h);
+      }
 
-  pub reading_more : i < length w → 48 ≤ get_or w i 0 → get_or w i 0 ≤ 57 → Reading w (n * 10 + (get_or w i 0 - 48)) (i + 1)
-  reading_more lt h k = record {
-    some_digits = r.some_digits;
-    few_digits = r.few_digits;
-    within = omega arith;
-    small = rw (add-one, pow-suc) (omega arith);
-    rest = r.rest ∙ rw (drop-cons w i 0 lt, add-one) (after_yes n (get_or w i 0) (drop (suc i) w) (digit-yes (get_or w i 0) h k));
-  }
-
-  pub reading_end : length w ≤ i → numeral w ≡ some n
+  pub reading_end : length w ≤ i → numeral w ≡ Some n
   reading_end le = whole ∙ rw (drop_of_length-le w le) (after_nil n)
 
 -- A size or an index, by whether it has a leading zero that the rules do not take.
-pub natural-by : (rules : Rules) (w : List ℕ) (b : Bool) → b ≡ zero_refused rules w → cond b none (numeral w) ≡ natural rules w
+pub natural-by : (rules : Rules) (w : List ℕ) (b : Bool) → b ≡ zero_refused rules w → cond b None (numeral w) ≡ natural rules w
 unfolding natural
-natural-by New w b e = ap (λ (x : Bool). cond x none (numeral w)) e
-natural-by Old w b e = ap (λ (x : Bool). cond x none (numeral w)) e
+natural-by New w b e = ap (λ (x : Bool). cond x None (numeral w)) e
+natural-by Old w b e = ap (λ (x : Bool). cond x None (numeral w)) e

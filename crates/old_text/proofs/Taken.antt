@@ -1,4 +1,6 @@
 -- Whether a text is taken, by what the readers answer.
+use Rattle.std.specs.Prelude.{Ok, Err, Option, Some, None}
+use Rattle.std.specs.Result.{is_ok}
 use Prim.Native.Nat.{ℕ, suc, ◌≤◌, ◌<◌}
 use mathlib.Core.Path.{◌≡◌, refl, sym, ap, ap₂, ◌∙◌}
 use mathlib.Core.Bool.{Bool, true, false, ◌||◌, or-true}
@@ -7,107 +9,93 @@ use native.Mathlib.Omega.{arith}
 use lib.IntN.{ℤ}
 use lib.ListN.{length}
 use borrow.Author.Tests.{leb-true}
-use Rattle.graph.specs.declared.Shape.{Shape}
-use Rattle.graph.specs.declared.Refusal.{Refusal}
 use Rattle.graph.specs.Limits.{most_old_numbers, most_edges}
-use Rattle.graph.specs.Refusal.{Outcome, yields, refuses, told, reported}
-use Rattle.graph.specs.Graph.{Graph, shape_of}
+use Rattle.graph.specs.Refusal.{Outcome, reported}
 use Rattle.graph.proofs.Passing.{zero_one, none_some}
 use Rattle.layout.specs.declared.Rules.TheVariants.{Old}
 use Rattle.layout.specs.declared.Field.{Field}
-use Rattle.layout.specs.declared.Field.TheVariants as Field
 use Rattle.layout.specs.declared.Numbers.{Numbers}
 use Rattle.layout.specs.declared.Numbers.TheVariants.{Bounds, Prices}
-use Rattle.layout.specs.declared.GraphAnswer.{GraphAnswer}
-use Rattle.layout.specs.declared.GraphAnswer.TheVariants as GraphAnswer
-use Rattle.layout.specs.declared.NumbersAnswer.{NumbersAnswer}
-use Rattle.layout.specs.declared.NumbersAnswer.TheVariants as NumbersAnswer
 use Rattle.layout.specs.Text.{text_fits}
 use Rattle.layout.specs.Lines.{read_text}
 use Rattle.layout.specs.GraphText.{read_graph_by}
 use Rattle.layout.specs.NumberText.{number_layout, read_numbers_by}
-use Rattle.layout.specs.Answers.{graph_says, numbers_say}
 use Rattle.layout.specs.Rewrite.{takes, taken_as, taken_as_numbers, taken}
 use Rattle.patterns.proofs.Readers.{graph-read}
 use Rattle.patterns.proofs.Prices.{bounds_are_prices}
 use Rattle.patterns.proofs.Taken.{takes-some, numbers_read, numbers_taken, taken-numbers}
 
--- ---- as a graph
-
-module _ (W : Outcome Graph) {r : GraphAnswer} (says : graph_says r ≡ told (reported shape_of W)) where
-  pub graph_taken : {s : Shape} → r ≡ GraphAnswer.Graph s → true ≡ takes W
-  graph_taken {s} is = go W (sym (ap graph_says is) ∙ says)
-    where
-      go : (o : Outcome Graph) → graph_says (GraphAnswer.Graph s) ≡ told (reported shape_of o) → true ≡ takes o
-      go (yields g) e = refl
-      go (refuses f p) e = zero_one (cc)
-
-  pub graph_refused : {x : Refusal} → r ≡ GraphAnswer.Refused x → false ≡ takes W
-  graph_refused {x} is = go W (sym (ap graph_says is) ∙ says)
-    where
-      go : (o : Outcome Graph) → graph_says (GraphAnswer.Refused x) ≡ told (reported shape_of o) → false ≡ takes o
-      go (yields g) e = zero_one (cc)
-      go (refuses f p) e = refl
-
 -- ---- as numbers
 
--- The text can be taken for this count alone.
-module _ (text : List ℕ) (count : ℕ) (only : (what : Numbers) (k : ℕ) (zs : List ℤ) → read_text (number_layout Old what k) text ≡ yields zs → count ≡ k) where
-  as_prices : (what : Numbers) (k : ℕ) (zs : List ℤ) → read_numbers_by Old what k k text ≡ yields zs → read_numbers_by Old Prices k k text ≡ yields zs
+module _ (text : List ℕ) where
+  abbrev pub Numeric : Bool
+  Numeric = taken_as_numbers Bounds text || taken_as_numbers Prices text
+
+  as_prices : (what : Numbers) (k : ℕ) (zs : List ℤ) → read_numbers_by Old what k k text ≡ Ok zs → read_numbers_by Old Prices k k text ≡ Ok zs
   as_prices Bounds k zs e = bounds_are_prices Old k k text zs e
   as_prices Prices k zs e = e
 
-  -- It is not taken for it as prices, and so not at all.
-  module _ (not-prices : (zs : List ℤ) → read_numbers_by Old Prices count count text ≡ yields zs → ⊥) where
-    not_numbers : (what : Numbers) → taken_as_numbers what text ≡ false
-    not_numbers what = none_some most_old_numbers (λ k. takes (read_numbers_by Old what (suc k) (suc k) text)) (λ k l. go k (read_numbers_by Old what (suc k) (suc k) text) refl)
-      where
-        go : (k : ℕ) (o : Outcome (List ℤ)) → read_numbers_by Old what (suc k) (suc k) text ≡ o → takes o ≡ false
-        go k (refuses f p) e = refl
-        go k (yields zs) e =
-            let same : count ≡ suc k = only what (suc k) zs (numbers_read Old what (suc k) (suc k) text zs e).by_lines in
-            absurd (not-prices zs (ap (λ (j : ℕ). read_numbers_by Old Prices j j text) same ∙ as_prices what (suc k) zs e))
+  -- It is taken for no count.
+  none_taken : ((what : Numbers) (k : ℕ) (zs : List ℤ) → read_numbers_by Old what k k text ≡ Ok zs → ⊥) → false ≡ Numeric
+  none_taken never = sym (ap₂ ◌||◌ (not_numbers Bounds) (not_numbers Prices))
+    where
+      not_numbers : (what : Numbers) → taken_as_numbers what text ≡ false
+      not_numbers what = none_some most_old_numbers (λ k. takes (read_numbers_by Old what (suc k) (suc k) text)) (λ k l. go k (read_numbers_by Old what (suc k) (suc k) text) refl)
+        where
+          go : (k : ℕ) (o : Outcome (List ℤ)) → read_numbers_by Old what (suc k) (suc k) text ≡ o → takes o ≡ false
+          go k (Err refusal) e = refl
+          go k (Ok zs) e = absurd (never what (suc k) zs e)
 
-    none_taken : false ≡ (taken_as_numbers Bounds text || taken_as_numbers Prices text)
-    none_taken = sym (ap₂ ◌||◌ (not_numbers Bounds) (not_numbers Prices))
+  -- It can be taken for the count that is told alone.
+  module _ {told : Option ℕ} (only : (what : Numbers) (k : ℕ) (zs : List ℤ) → read_text (number_layout Old what k) text ≡ Ok zs → told ≡ Some k) where
+    only_told : (what : Numbers) (k : ℕ) (zs : List ℤ) → read_numbers_by Old what k k text ≡ Ok zs → told ≡ Some k
+    only_told what k zs e = only what k zs (numbers_read Old what k k text zs e).by_lines
 
-  pub too_many : 1152 < count → false ≡ (taken_as_numbers Bounds text || taken_as_numbers Prices text)
-  too_many h = none_taken (λ zs e. omega (arith, (numbers_read Old Prices count count text zs e).counted))
+    pub untold : told ≡ None → false ≡ Numeric
+    untold is = none_taken (λ what k zs e. let h : told ≡ Some k = only_told what k zs e in absurd (zero_one (cc)))
 
-  module _ {n : ℕ} (long : n ≡ count) (r : NumbersAnswer) (says : numbers_say r ≡ told (reported (λ zs. tt {0}) (read_numbers_by Old Prices count n text))) where
-    says_whole : numbers_say r ≡ told (reported (λ zs. tt {0}) (read_numbers_by Old Prices count count text))
-    says_whole = says ∙ ap (λ (j : ℕ). told (reported (λ zs. tt {0}) (read_numbers_by Old Prices count j text))) long
+    module _ {count : ℕ} (is : told ≡ Some count) where
+      -- It is not taken for it as prices, and so not at all.
+      not_priced : ((zs : List ℤ) → read_numbers_by Old Prices count count text ≡ Ok zs → ⊥) → false ≡ Numeric
+      not_priced never =
+          none_taken (λ what k zs e. let h : told ≡ Some k = only_told what k zs e in let same : k ≡ count = cc in
+          never zs (sym (ap (λ (j : ℕ). read_numbers_by Old Prices j j text) same) ∙ as_prices what k zs e))
 
-    pub numbers_refused : {x : Refusal} → r ≡ NumbersAnswer.Refused x → false ≡ (taken_as_numbers Bounds text || taken_as_numbers Prices text)
-    numbers_refused {x} is =
-        none_taken
-        (λ zs e. let z = sym (ap numbers_say is) ∙ says_whole ∙ ap (λ (o : Outcome (List ℤ)). told (reported (λ zs. tt {0}) o)) e in zero_one (cc))
+      pub too_many : 1152 < count → false ≡ Numeric
+      too_many h = not_priced (λ zs e. omega (arith, (numbers_read Old Prices count count text zs e).counted))
 
-    pub numbers_read_taken : r ≡ NumbersAnswer.Read → true ≡ (taken_as_numbers Bounds text || taken_as_numbers Prices text)
-    numbers_read_taken is = go (read_numbers_by Old Prices count count text) refl (sym (ap numbers_say is) ∙ says_whole)
-      where
-        go : (o : Outcome (List ℤ)) → read_numbers_by Old Prices count count text ≡ o → numbers_say NumbersAnswer.Read ≡ told (reported (λ zs. tt {0}) o) →
-            true ≡ (taken_as_numbers Bounds text || taken_as_numbers Prices text)
-        go (refuses f p) is e = zero_one (cc)
-        go (yields zs) is e =
-            sym (ap (λ (b : Bool). taken_as_numbers Bounds text || b) (numbers_taken Prices text count zs is) ∙ or-true (taken_as_numbers Bounds text))
+      pub read_as_prices : {n : ℕ} → n ≡ count → (r : Outcome (Unit {0})) → r ≡ reported (λ zs. tt {0}) (read_numbers_by Old Prices count n text) → is_ok r ≡ Numeric
+      read_as_prices long r says =
+          go (read_numbers_by Old Prices count count text) refl r
+          (says ∙ ap (λ (j : ℕ). (reported (λ zs. tt {0}) (read_numbers_by Old Prices count j text))) long)
+        where
+          go : (o : Outcome (List ℤ)) → read_numbers_by Old Prices count count text ≡ o → (r : Outcome (Unit {0})) → r ≡ reported (λ zs. tt {0}) o → is_ok r ≡ Numeric
+          go (Ok zs) e (Ok u) q =
+              sym (ap (λ (b : Bool). taken_as_numbers Bounds text || b) (numbers_taken Prices text count zs e) ∙ or-true (taken_as_numbers Bounds text))
+          go (Ok zs) e (Err x) q = zero_one (cc)
+          go (Err y) e (Ok u) q = zero_one (cc)
+          go (Err y) e (Err x) q = not_priced (λ zs h. zero_one (cc))
 
 -- ---- as one of these
 
--- The answers of the three functions, in their order.
-module _ (text : List ℕ) where
-  pub taken-first : true ≡ taken_as Field.Integer text → true ≡ taken text
+-- As a graph, with either field, by v; and else as numbers, by r.
+module _ (text : List ℕ) {v : Bool} (graph : v ≡ (taken_as Field.Integer text || taken_as Field.Pattern text)) where
+  parts : taken text ≡ (v || Numeric text)
   unfolding taken
-  taken-first e = ap (λ (b : Bool). b || taken_as Field.Pattern text || taken_as_numbers Bounds text || taken_as_numbers Prices text) e
+  parts =
+      go (taken_as Field.Integer text) (taken_as Field.Pattern text) (taken_as_numbers Bounds text) (taken_as_numbers Prices text)
+      ∙ ap (λ (b : Bool). b || Numeric text) (sym graph)
+    where
+      go : (a b c d : Bool) → (a || b || c || d) ≡ ((a || b) || (c || d))
+      go true b c d = refl
+      go false true c d = refl
+      go false false c d = refl
 
-  module _ (no : false ≡ taken_as Field.Integer text) where
-    pub taken-second : true ≡ taken_as Field.Pattern text → true ≡ taken text
-    unfolding taken
-    taken-second e = ap₂ (λ (a b : Bool). a || b || taken_as_numbers Bounds text || taken_as_numbers Prices text) no e
+  pub taken-graph : v ≡ true → v ≡ taken text
+  taken-graph e = e ∙ sym (parts ∙ ap (λ (b : Bool). b || Numeric text) e)
 
-    pub taken-third : false ≡ taken_as Field.Pattern text → {r : Bool} → r ≡ (taken_as_numbers Bounds text || taken_as_numbers Prices text) → r ≡ taken text
-    unfolding taken
-    taken-third e is = is ∙ ap₂ (λ (a b : Bool). a || b || taken_as_numbers Bounds text || taken_as_numbers Prices text) no e
+  pub taken-numbers-only : v ≡ false → {r : Bool} → r ≡ Numeric text → r ≡ taken text
+  taken-numbers-only e is = is ∙ sym (parts ∙ ap (λ (b : Bool). b || Numeric text) e)
 
 -- ---- what is taken is not too long
 

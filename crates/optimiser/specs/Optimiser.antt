@@ -3,7 +3,8 @@ use Rattle.std.specs.Prelude.{ℕ, ◌+◌, ◌≤◌, ◌<◌, ◌≡◌, ◌�
 use Rattle.graph.specs.Limits.{most_vertices, greatest_weight}
 use Rattle.graph.specs.Graph.{Graph, vertices}
 use Rattle.method.specs.Method.{level, value, cost, natural_bound}
-use Rattle.method.specs.Lists.{leasts, mosts, most_table}
+use Rattle.method.specs.declared.Table.{Table}
+use Rattle.method.specs.Lists.{leasts, mosts}
 
 -- The price of vertex v is raised to k, if it is not as high already.
 pub record Raised (v k : ℕ) (old new : ℕ → ℕ) : Type 0 where
@@ -20,7 +21,6 @@ pub record Started (g : Graph) (price : ℕ → ℕ) (n : ℕ) : Type 0 where
   pub loose : (e : ℕ) → e < n → value g e ≤ cost g price e
 
 -- The table of vertices with these bounds for mosts, and with no leasts.
-pub record BoundsTabled (bound : List ℤ) (table : List ℕ) : Type 0 where
+pub record BoundsTabled (bound : List ℤ) (table : Table) : Type 0 where
   pub least : (v : ℕ) → v < most_vertices → leasts table v ≡ 0
   pub most : (v : ℕ) → v < length bound → mosts table v ≡ natural_bound bound v
-  pub long : length table ≡ most_table

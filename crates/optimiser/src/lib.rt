@@ -12,7 +12,7 @@ ghost use Rattle.method.specs.Tree.{entries};
 ghost use Rattle.optimiser.specs.Optimiser.{Raised, Started, BoundsTabled};
 
 use graph::{MOST_EDGES, MOST_VERTICES, Shape};
-use method::{LEVEL, MOST_ARCS, MOST_TABLE, MOSTS};
+use method::{KeptEdge, LEVEL, State, Table};
 
 // Raises the price of edge e's row vertex to the edge's weight, if it is not as high already.
 fn raise_row(s: Shape, row: &[u32], column: &[u32], weight: &[i32], price: &mut [u32], e: usize)
@@ -33,26 +33,27 @@ fn first_prices(s: Shape, row: &[u32], column: &[u32], weight: &[i32]) -> [u32; 
     ensures { Started (graph_of s row.now column.now weight.now) (entries result) s.edges }
 {
     let mut price = [LEVEL; MOST_VERTICES];
-    let mut e = 0;
-    while e < row.len() {
+    for e in 0..row.len() {
         raise_row(s, row, column, weight, &mut price, e);
-        e += 1;
     }
     price
 }
 
 // The table of the vertices, with their mosts; the leasts are 0.
-fn table_of(bound: &[i32]) -> [u32; MOST_TABLE]
+fn table_of(bound: &[i32]) -> Table
     requires { length bound.now ≤ most_vertices }
     ensures { BoundsTabled bound.now result }
 {
-    let mut table = [0u32; MOST_TABLE];
-    let mut v = 0;
-    while v < bound.len() {
-        table[MOSTS + v] = integers::natural_at(bound, v);
-        v += 1;
+    let mut most = [0u32; MOST_VERTICES];
+    for v in 0..bound.len() {
+        most[v] = integers::natural_at(bound, v);
     }
-    table
+    Table {
+        start: [0u32; MOST_VERTICES],
+        stop: [0u32; MOST_VERTICES],
+        least: [0u32; MOST_VERTICES],
+        most,
+    }
 }
 
 // Chooses an optimal subgraph, where no edge is chosen yet, and sets the prices that show it. The chosen edges of the column vertices are listed in what
@@ -77,20 +78,26 @@ pub fn optimise(
     ensures { Solved (graph_of s row.now column.now weight.now) bound.now (outputs_of chosen.new vertex_price.new edge_price.new) }
 {
     let mut table = table_of(bound);
-    let mut arc = [0u32; MOST_ARCS];
-    arcs::keep_rows(s, row, column, weight, index, &mut table, &mut arc);
+    let nothing = KeptEdge {
+        edge: 0,
+        head: 0,
+        value: 0,
+    };
+    let mut kept = [nothing; MOST_EDGES];
+    arcs::keep_rows(s, row, column, weight, index, &mut table, &mut kept);
     arcs::begin_lists(s, row, column, weight, index, &mut table);
     let turns = roots::serving_order(s.rows, &table);
-    let mut price = first_prices(s, row, column, weight);
-    let mut used = [0u32; MOST_VERTICES];
+    let mut state = State {
+        price: first_prices(s, row, column, weight),
+        used: [0u32; MOST_VERTICES],
+    };
     let mut place = [0u32; MOST_EDGES];
     let served = serving::serve_rows(
-        s, row, column, weight, &arc, &table, turns, chosen, list, &mut place, &mut price,
-        &mut used,
+        s, row, column, weight, &kept, &table, turns, chosen, list, &mut place, &mut state,
     );
     if !served {
         return;
     }
-    pricing::edge_prices(s, row, column, weight, chosen, &price, edge_price);
-    pricing::vertex_prices(&price, vertex_price);
+    pricing::edge_prices(s, row, column, weight, chosen, &state.price, edge_price);
+    pricing::vertex_prices(&state.price, vertex_price);
 }

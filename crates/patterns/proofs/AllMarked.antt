@@ -1,8 +1,8 @@
 -- The text of a graph without weights is the text of a subgraph (plan) of that graph: the one with all its edges.
+use Rattle.std.specs.Prelude.{Option, None, Some, option_map, Ok}
 use mathlib.Core.Path.{◌≡◌, refl, sym, ap, ap₂, ◌∙◌}
 use mathlib.Core.Bool.{Bool, true, cond, ◌&&◌}
 use mathlib.Core.List.{List}
-use mathlib.Core.Option.{Option, none, some, map}
 use Prim.Native.Nat.{ℕ, suc, ◌+◌, ◌<◌}
 use native.Mathlib.Omega.{arith}
 use lib.Dec.{ltb, leb, eqb}
@@ -12,7 +12,6 @@ use lib.ListN.{length, get_or, set, replicate, length-replicate, get_or-replicat
 use Rattle.graph.specs.declared.Kind.{Kind}
 use Rattle.graph.specs.declared.Shape.{Shape}
 use Rattle.graph.specs.declared.Fault.TheVariants.{Disagreement}
-use Rattle.graph.specs.Refusal.{yields}
 use Rattle.graph.specs.Graph.{Graph, shape_of, sizes_in_range, ends_in_range}
 use Rattle.graph.specs.Passed.{Passed}
 use Rattle.graph.proofs.Passing.{zero_one}
@@ -40,11 +39,11 @@ marks_after p n = marks_so_far p.edges n (marks_to p.edges (all_of p) n)
 -- ---- the line of an edge
 
 -- Row and column of an edge that is read without its weight.
-ends_of : (o : Option (ℕ × ℕ)) (e : ℕ × ℕ × ℤ) → map (λ x. (x.0, x.1, pos 0)) o ≡ some e → o ≡ some (e.0, e.1)
-ends_of none e h = zero_one (cc)
-ends_of (some (r, c)) e h =
+ends_of : (o : Option (ℕ × ℕ)) (e : ℕ × ℕ × ℤ) → option_map (λ x. (x.0, x.1, pos 0)) o ≡ Some e → o ≡ Some (e.0, e.1)
+ends_of None e h = zero_one (cc)
+ends_of (Some (r, c)) e h =
     let i : ◌≡◌ {A = ℕ × ℕ × ℤ} (r, c, pos 0) e = cc in
-    ap (λ (x : ℕ × ℕ × ℤ). some (x.0, x.1)) i
+    ap (λ (x : ℕ × ℕ × ℤ). Some (x.0, x.1)) i
 
 -- q is read, and then an edge with row r and column c, of the graph p.
 module _ {p : Graph} (P : Passed p) (q : Graph) (r c : ℕ) (w : ℤ) (E : Extends (with_edge q r c w) p) (same : length q.column ≡ length q.row)
@@ -61,7 +60,7 @@ module _ {p : Graph} (P : Passed p) (q : Graph) (r c : ℕ) (w : ℤ) (E : Exten
   more_marks : ltb n p.edges ≡ true
   more_marks = sym (ap (ltb n) count_is) ∙ more
 
-  found : edge_with p r c ≡ some n
+  found : edge_with p r c ≡ Some n
   found = sym (ap₂ (edge_with p) (extends_row q r c w E) (extends_column q r c w E same)) ∙ edge_found P n among
 
   long : length (all_of p) ≡ p.edges
@@ -70,7 +69,7 @@ module _ {p : Graph} (P : Passed p) (q : Graph) (r c : ℕ) (w : ℤ) (E : Exten
   set_here : set (marks_to p.edges (all_of p) n) n 1 ≡ marks_to p.edges (all_of p) (suc n)
   set_here = marks_set p.edges (all_of p) long n among (get_or-replicate p.edges n 1 0 among)
 
-  edge_marked : ends_in_range q.kind q.rows q.columns r c ≡ true → subgraph_edge p (marks_after p n) (some (r, c)) ≡ goes (marks_after p (suc n))
+  edge_marked : ends_in_range q.kind q.rows q.columns r c ≡ true → subgraph_edge p (marks_after p n) (Some (r, c)) ≡ goes (marks_after p (suc n))
   edge_marked ends =
       let s : n + 1 ≡ suc n = omega arith in
       let in-range : ends_in_range p.kind p.rows p.columns r c ≡ true =
@@ -145,14 +144,14 @@ module _ (rules : Rules) where
       → Reads (subgraph_layout rules p) start ls (marks_after p (length p.row))
   reads_all_marked (by_header {l = l} {h = kind} {b = p} fits is rest) P =
       by_header fits
-      (ap (subgraph_header p) (header-kind l kind is ∙ ap some (kind_kept rules Field.Pattern rest))
+      (ap (subgraph_header p) (header-kind l kind is ∙ ap Some (kind_kept rules Field.Pattern rest))
       ∙ ap (λ (t : Bool). cond t (goes tt) (stops Disagreement)) (same_kind p.kind))
       (sizes_all_marked rest P)
 
-  pub pattern_marked : (text : List ℕ) (p : Graph) → read_text (graph_layout rules Field.Pattern) text ≡ yields p
-      → read_text (subgraph_layout rules p) text ≡ yields (replicate p.edges 1)
+  pub pattern_marked : (text : List ℕ) (p : Graph) → read_text (graph_layout rules Field.Pattern) text ≡ Ok p
+      → read_text (subgraph_layout rules p) text ≡ Ok (replicate p.edges 1)
   pattern_marked text p h =
       let P : Passed p = text_passes rules Field.Pattern text p h in
       reads_yield (subgraph_layout rules p) (reads_all_marked (graph_reads rules Field.Pattern text p h) P) 1
-      ∙ ap (λ (k : ℕ). yields (marks_to p.edges (all_of p) k)) P.sound.row_long
-      ∙ ap yields (marks_all p.edges (all_of p) (length-replicate p.edges 1))
+      ∙ ap (λ (k : ℕ). Ok (marks_to p.edges (all_of p) k)) P.sound.row_long
+      ∙ ap Ok (marks_all p.edges (all_of p) (length-replicate p.edges 1))

@@ -1,8 +1,8 @@
 -- What the lines of a graph's text do, of which none is refused: the sizes that are read, and one edge more.
+use Rattle.std.specs.Prelude.{Option, None, Some}
 use mathlib.Core.Path.{◌≡◌, refl, ap}
 use mathlib.Core.Bool.{Bool, true, false, cond}
 use mathlib.Core.List.{List, [], ◌∷◌, ◌++◌}
-use mathlib.Core.Option.{Option, none, some}
 use Prim.Native.Nat.{ℕ, suc, ◌≤◌, ◌<◌}
 use native.Mathlib.Omega.{arith}
 use lib.IntN.{ℤ, pos}
@@ -19,15 +19,15 @@ use Rattle.layout.specs.GraphText.{no_edges, shape_from, graph_sizes, with_edge,
 
 pub record Sized (kind : Kind) (o : Option (ℕ × ℕ × ℕ)) (d : Graph) : Type 0 where
   pub sizes : ℕ × ℕ × ℕ
-  pub read : o ≡ some sizes
+  pub read : o ≡ Some sizes
   pub range : shape_in_range (shape_from kind sizes) ≡ true
   pub is : no_edges (shape_from kind sizes) ≡ d
 
 pub sizes-read : (kind : Kind) (o : Option (ℕ × ℕ × ℕ)) (d : Graph) → graph_sizes kind o ≡ goes d → Sized kind o d
-sizes-read kind none d e = zero_one (cc)
-sizes-read kind (some s) d e = go (shape_in_range (shape_from kind s)) refl e
+sizes-read kind None d e = zero_one (cc)
+sizes-read kind (Some s) d e = go (shape_in_range (shape_from kind s)) refl e
   where
-    go : (b : Bool) → shape_in_range (shape_from kind s) ≡ b → cond b (goes (no_edges (shape_from kind s))) (stops Sizes) ≡ goes d → Sized kind (some s) d
+    go : (b : Bool) → shape_in_range (shape_from kind s) ≡ b → cond b (goes (no_edges (shape_from kind s))) (stops Sizes) ≡ goes d → Sized kind (Some s) d
     go true is e = record { sizes = s; read = refl; range = is; is = cc }
     go false is e = zero_one (cc)
 
@@ -42,23 +42,23 @@ pub record Added (g : Graph) (r c : ℕ) (w : ℤ) (d : Graph) : Type 0 where
 
 pub record AddedFrom (g : Graph) (o : Option (ℕ × ℕ × ℤ)) (d : Graph) : Type 0 where
   pub edge : ℕ × ℕ × ℤ
-  pub read : o ≡ some edge
+  pub read : o ≡ Some edge
   pub added : Added g edge.0 edge.1 edge.2 d
 
 pub edge_read : (g : Graph) (o : Option (ℕ × ℕ × ℤ)) (d : Graph) → graph_edge g o ≡ goes d → AddedFrom g o d
-edge_read g none d e = zero_one (cc)
-edge_read g (some (r, c, w)) d e =
+edge_read g None d e = zero_one (cc)
+edge_read g (Some (r, c, w)) d e =
     go (ends_in_range g.kind g.rows g.columns r c) (weight_in_range w) (joined g (length g.row) r c) refl refl refl e
   where
     go : (x y z : Bool) → ends_in_range g.kind g.rows g.columns r c ≡ x → weight_in_range w ≡ y → joined g (length g.row) r c ≡ z
-        → cond x (cond y (cond z (stops SameEnds) (goes (with_edge g r c w))) (stops Weight)) (stops Ends) ≡ goes d → AddedFrom g (some (r, c, w)) d
+        → cond x (cond y (cond z (stops SameEnds) (goes (with_edge g r c w))) (stops Weight)) (stops Ends) ≡ goes d → AddedFrom g (Some (r, c, w)) d
     go true true false p q s e = record { edge = (r, c, w); read = refl; added = record { ends = p; weight = q; apart = s; is = cc } }
     go true true true p q s e = zero_one (cc)
     go true false z p q s e = zero_one (cc)
     go false y z p q s e = zero_one (cc)
 
 -- And back: such an edge is not refused.
-pub edge_added : (g : Graph) (r c : ℕ) (w : ℤ) (d : Graph) → Added g r c w d → graph_edge g (some (r, c, w)) ≡ goes d
+pub edge_added : (g : Graph) (r c : ℕ) (w : ℤ) (d : Graph) → Added g r c w d → graph_edge g (Some (r, c, w)) ≡ goes d
 edge_added g r c w d a = rw (a.ends, a.weight, a.apart) (ap goes a.is)
 
 -- ---- the edges of a graph with one more

@@ -1,9 +1,9 @@
 -- Numbers that a text yields are as many as were asked for, and each is in range.
+use Rattle.std.specs.Prelude.{Option, None, Some, Ok}
 use Prim.Native.Nat.{ℕ, ◌≤◌, ◌<◌}
 use mathlib.Core.Path.{◌≡◌, refl, ap, ◌∙◌, subst}
 use mathlib.Core.Bool.{Bool, true, false, cond, ◌&&◌}
 use mathlib.Core.List.{List, [], ◌∷◌, ◌++◌}
-use mathlib.Core.Option.{Option, none, some}
 use native.Mathlib.Omega.{arith}
 use lib.Dec.{ltb, eqb}
 use borrow.Author.Tests.{ltb-true, ltb-false}
@@ -11,7 +11,6 @@ use lib.IntN.{ℤ, pos}
 use lib.ListN.{length, get_or, get_or-append}
 use lib.Seq.{get_or_at}
 use Rattle.graph.specs.declared.Fault.TheVariants.{Sizes}
-use Rattle.graph.specs.Refusal.{yields}
 use Rattle.graph.proofs.Passing.{zero_one, up_to}
 use Rattle.layout.specs.declared.Rules.{Rules}
 use Rattle.layout.specs.declared.Numbers.{Numbers}
@@ -41,8 +40,8 @@ module _ (rules : Rules) (what : Numbers) (count : ℕ) where
   }
 
   number_line : (zs : List ℤ) (o : Option ℤ) (d : List ℤ) → HeldSoFar zs → ltb (length zs) count ≡ true → number_value rules what zs o ≡ goes d → HeldSoFar d
-  number_line zs none d S more h = zero_one (cc)
-  number_line zs (some z) d S more h = go (in_range rules what z) refl h
+  number_line zs None d S more h = zero_one (cc)
+  number_line zs (Some z) d S more h = go (in_range rules what z) refl h
     where
       go : (b : Bool) → in_range rules what z ≡ b → cond b (goes (zs ++ (z ∷ []))) (stops (outside what)) ≡ goes d → HeldSoFar d
       go true is h =
@@ -51,8 +50,8 @@ module _ (rules : Rules) (what : Numbers) (count : ℕ) where
       go false is h = zero_one (cc)
 
   number_size : (o : Option (ℕ × ℕ)) (d : List ℤ) → number_sizes count o ≡ goes d → HeldSoFar d
-  number_size none d h = zero_one (cc)
-  number_size (some s) d h = go (eqb s.0 count && eqb s.1 1) h
+  number_size None d h = zero_one (cc)
+  number_size (Some s) d h = go (eqb s.0 count && eqb s.1 1) h
     where
       go : (b : Bool) → cond b (goes []) (stops Sizes) ≡ goes d → HeldSoFar d
       go true h = let e : ◌≡◌ {A = List ℤ} [] d = cc in subst HeldSoFar e no_number
@@ -77,7 +76,7 @@ module _ (rules : Rules) (what : Numbers) (count : ℕ) where
   text_held : {ls : List (List ℕ)} {zs : List ℤ} → Reads (number_layout rules what count) start ls zs → NumbersHeld zs
   text_held (by_header fits is rest) = sizes_held rest
 
-  pub numbers_held : (n : ℕ) (text : List ℕ) (zs : List ℤ) → read_numbers_by rules what count n text ≡ yields zs → NumbersHeld zs
+  pub numbers_held : (n : ℕ) (text : List ℕ) (zs : List ℤ) → read_numbers_by rules what count n text ≡ Ok zs → NumbersHeld zs
   numbers_held n text zs e =
       let r = yield_reads (number_layout rules what count) 1 start (lines text) zs (numbers_read rules what count n text zs e).by_lines in
       subst NumbersHeld r.result (text_held r.reads)

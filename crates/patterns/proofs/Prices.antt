@@ -1,8 +1,8 @@
 -- Numbers that are read by one range are read alike by another that has each of them. So a text of bounds is one of prices too, and old prices are prices.
+use Rattle.std.specs.Prelude.{Option, None, Some, Ok}
 use mathlib.Core.Path.{◌≡◌, refl, sym, ap, ◌∙◌, subst}
 use mathlib.Core.Bool.{Bool, true, false, cond}
 use mathlib.Core.List.{List, ◌∷◌, [], ◌++◌, append-nil}
-use mathlib.Core.Option.{Option, none, some}
 use Prim.Native.Nat.{ℕ, ◌<◌}
 use native.Mathlib.Omega.{arith}
 use lib.IntN.{ℤ, pos}
@@ -11,7 +11,7 @@ use lib.Seq.{append_snoc, get_or_at}
 use lib.Signed.{◌≤ℤ◌}
 use Rattle.integers.proofs.Order.{order, between-true, le-between}
 use Rattle.graph.specs.Limits.{greatest_bound, greatest_price, greatest_old_price}
-use Rattle.graph.specs.Refusal.{yields, Test, passing}
+use Rattle.graph.specs.Refusal.{Test, passing}
 use Rattle.graph.proofs.Passing.{zero_one, passes, pass}
 use Rattle.layout.specs.declared.Rules.{Rules}
 use Rattle.layout.specs.declared.Rules.TheVariants.{New, Old}
@@ -35,15 +35,15 @@ ranged_layout rules ranges what count = record {
 -- A line that is taken adds a number in range.
 record PriceAdded (ranges : Rules) (what : Numbers) (zs : List ℤ) (o : Option ℤ) (d : List ℤ) : Type 0 where
   number : ℤ
-  is : o ≡ some number
+  is : o ≡ Some number
   within : in_range ranges what number ≡ true
   last : d ≡ zs ++ (number ∷ [])
 
 added : (ranges : Rules) (what : Numbers) (zs : List ℤ) (o : Option ℤ) (d : List ℤ) → number_value ranges what zs o ≡ goes d → PriceAdded ranges what zs o d
-added ranges what zs none d h = zero_one (cc)
-added ranges what zs (some z) d h = go (in_range ranges what z) refl h
+added ranges what zs None d h = zero_one (cc)
+added ranges what zs (Some z) d h = go (in_range ranges what z) refl h
   where
-    go : (b : Bool) → in_range ranges what z ≡ b → cond b (goes (zs ++ (z ∷ []))) (stops (outside what)) ≡ goes d → PriceAdded ranges what zs (some z) d
+    go : (b : Bool) → in_range ranges what z ≡ b → cond b (goes (zs ++ (z ∷ []))) (stops (outside what)) ≡ goes d → PriceAdded ranges what zs (Some z) d
     go true is h = record { number = z; is = refl; within = is; last = cc }
     go false is h = zero_one (cc)
 
@@ -92,18 +92,18 @@ module _ (rules ranges others : Rules) (what sort : Numbers) (count : ℕ) where
       let h = next-within c r.0 a.number (r.1 ∙ ap (λ (xs : List ℤ). xs ++ r.0) a.last) w a.within in
       by_line fits full more (taken c (one_word (integer rules) (words l)) a.number a.is h ∙ ap goes (sym a.last)) (reads_alike w rest)
     where
-      taken : (c : List ℤ) (o : Option ℤ) (z : ℤ) → o ≡ some z → in_range others sort z ≡ true → number_value others sort c o ≡ goes (c ++ (z ∷ []))
+      taken : (c : List ℤ) (o : Option ℤ) (z : ℤ) → o ≡ Some z → in_range others sort z ≡ true → number_value others sort c o ≡ goes (c ++ (z ∷ []))
       taken c o z e h = rw (e, h)
 
   -- What tests and lines yield by one range, they yield by the other.
   pub numbers_alike : (ts : List Test) (text : List ℕ) (zs : List ℤ) → AlsoIn ranges what others sort zs →
-      passing ts (read_text (ranged_layout rules ranges what count) text) ≡ yields zs → passing ts (read_text (ranged_layout rules others sort count) text) ≡ yields zs
+      passing ts (read_text (ranged_layout rules ranges what count) text) ≡ Ok zs → passing ts (read_text (ranged_layout rules others sort count) text) ≡ Ok zs
   numbers_alike ts text zs w e =
       let p = passes ts (read_text (ranged_layout rules ranges what count) text) zs e in
       let r = yield_reads (ranged_layout rules ranges what count) 1 start (lines text) zs p.1 in
       pass ts p.0 (read_text (ranged_layout rules others sort count) text)
       ∙ reads_yield (ranged_layout rules others sort count) (reads_alike (subst (AlsoIn ranges what others sort) (sym r.result) w) r.reads) 1
-      ∙ ap yields r.result
+      ∙ ap Ok r.result
 
 -- A bound is a price, and an old price one of today.
 bound_is_price : (rules : Rules) (z : ℤ) → in_range rules Bounds z ≡ true → in_range rules Prices z ≡ true
@@ -123,8 +123,8 @@ old_is_new Prices z h =
     le-between w.0 l
 
 -- A text that is taken as bounds is taken as prices, with the same numbers.
-pub bounds_are_prices : (rules : Rules) (count n : ℕ) (text : List ℕ) (zs : List ℤ) → read_numbers_by rules Bounds count n text ≡ yields zs
-    → read_numbers_by rules Prices count n text ≡ yields zs
+pub bounds_are_prices : (rules : Rules) (count n : ℕ) (text : List ℕ) (zs : List ℤ) → read_numbers_by rules Bounds count n text ≡ Ok zs
+    → read_numbers_by rules Prices count n text ≡ Ok zs
 unfolding read_numbers_by
 bounds_are_prices rules count n text zs h =
     numbers_alike rules rules rules Bounds Prices count (number_reader_tests_by rules count n text) text zs (λ k l i. bound_is_price rules (get_or zs k (pos 0)) i) h

@@ -1,4 +1,5 @@
 -- What the readers yield: where what is lent and the text are as long as they should be, just what is read of the lines.
+use Rattle.std.specs.Prelude.{Ok}
 use mathlib.Core.Path.{◌≡◌, refl, ◌∙◌}
 use mathlib.Core.Logic.{◌↔◌}
 use mathlib.Core.Bool.{true, ◌&&◌}
@@ -9,7 +10,7 @@ use lib.Dec.{eqb}
 use borrow.Author.Tests.{eq-eqb}
 use Rattle.graph.specs.declared.Fault.TheVariants.{TextLength, LentLength}
 use Rattle.graph.specs.Limits.{most_edges}
-use Rattle.graph.specs.Refusal.{yields, once}
+use Rattle.graph.specs.Refusal.{once}
 use Rattle.graph.specs.Graph.{Graph}
 use Rattle.graph.specs.Tests.{graph_lengths, graph_tests}
 use Rattle.graph.specs.Passed.{Passed}
@@ -28,7 +29,7 @@ use Rattle.patterns.proofs.Patterns.{pattern_law}
 -- ---- graphs
 
 pub graph-read : (rules : Rules) (field : Field) (text : List ℕ) (g : Graph) →
-    (read_graph_by rules field most_edges most_edges most_edges text ≡ yields g) ↔ ((text_fits text ≡ true) × (read_text (graph_layout rules field) text ≡ yields g))
+    (read_graph_by rules field most_edges most_edges most_edges text ≡ Ok g) ↔ ((text_fits text ≡ true) × (read_text (graph_layout rules field) text ≡ Ok g))
 unfolding read_graph_by
 graph-read rules field text g = (
   λ h. let r = passes (graph_reader_tests most_edges most_edges most_edges text) (read_text (graph_layout rules field) text) g h in (r.0.1.0 0 (omega arith), r.1),
@@ -39,7 +40,7 @@ graph-read rules field text g = (
 -- ---- subgraphs
 
 pub subgraph_read : (rules : Rules) (g : Graph) (text : List ℕ) (x : List ℕ) →
-    (read_subgraph_by rules g g.edges text ≡ yields x) ↔ (Passed g × (text_fits text ≡ true) × (read_text (subgraph_layout rules g) text ≡ yields x))
+    (read_subgraph_by rules g g.edges text ≡ Ok x) ↔ (Passed g × (text_fits text ≡ true) × (read_text (subgraph_layout rules g) text ≡ Ok x))
 unfolding read_subgraph_by
 subgraph_read rules g text x = (
   λ h.
@@ -56,8 +57,8 @@ subgraph_read rules g text x = (
 
 -- A text is taken as a subgraph of some graph just where it is taken as a graph without weights.
 pub plan_of_some_graph : (rules : Rules) (text : List ℕ) →
-    ((g : Graph) × (x : List ℕ) × (read_subgraph_by rules g g.edges text ≡ yields x)) ↔
-    ((p : Graph) × (read_graph_by rules Field.Pattern most_edges most_edges most_edges text ≡ yields p))
+    ((g : Graph) × (x : List ℕ) × (read_subgraph_by rules g g.edges text ≡ Ok x)) ↔
+    ((p : Graph) × (read_graph_by rules Field.Pattern most_edges most_edges most_edges text ≡ Ok p))
 plan_of_some_graph rules text = (
   λ (g, x, h).
       let r = (subgraph_read rules g text x).0 h in

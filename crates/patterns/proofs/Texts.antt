@@ -1,8 +1,8 @@
 -- A graph that a text yields passes the tests that the calls make on a graph.
+use Rattle.std.specs.Prelude.{Option, Ok}
 use mathlib.Core.Path.{◌≡◌, refl, ap₂, ◌∙◌}
 use mathlib.Core.Bool.{true, false}
 use mathlib.Core.List.{List, ◌∷◌}
-use mathlib.Core.Option.{Option}
 use Prim.Native.Nat.{ℕ, suc, ◌≤◌, ◌<◌}
 use native.Mathlib.Omega.{arith}
 use lib.Dec.{ltb}
@@ -11,7 +11,7 @@ use lib.IntN.{ℤ}
 use lib.ListN.{length}
 use Rattle.graph.specs.declared.Kind.{Kind}
 use Rattle.graph.specs.declared.Fault.TheVariants.{LentLength}
-use Rattle.graph.specs.Refusal.{yields, once, passing}
+use Rattle.graph.specs.Refusal.{once, passing}
 use Rattle.graph.specs.Graph.{Graph, shape_of, shape_in_range, ends_in_range, weight_in_range, row_at, column_at, weight_at, joined}
 use Rattle.graph.specs.Tests.{graph_lengths, graph_tests}
 use Rattle.graph.specs.Passed.{Passed}
@@ -118,8 +118,8 @@ so_passed g S all = record {
 }
 
 -- What has passed passes the tests.
-pub passed_passing : {g : Graph} → Passed g → passing (once LentLength (graph_lengths g) ∷ graph_tests g) (yields tt) ≡ yields (tt {0})
-passed_passing {g} P = pass (once LentLength (graph_lengths g) ∷ graph_tests g) (λ k l. passed_lengths P, passed_tests P) (yields tt)
+pub passed_passing : {g : Graph} → Passed g → passing (once LentLength (graph_lengths g) ∷ graph_tests g) (Ok tt) ≡ Ok (tt {0})
+passed_passing {g} P = pass (once LentLength (graph_lengths g) ∷ graph_tests g) (λ k l. passed_lengths P, passed_tests P) (Ok tt)
 
 -- ---- the whole text
 
@@ -137,7 +137,7 @@ module _ (rules : Rules) (field : Field) where
   pub reads_pass : {ls : List (List ℕ)} {p : Graph} → Reads (graph_layout rules field) start ls p → Passed p
   reads_pass (by_header fits is rest) = sizes_pass rest
 
-  module _ (text : List ℕ) (g : Graph) (h : read_text (graph_layout rules field) text ≡ yields g) where
+  module _ (text : List ℕ) (g : Graph) (h : read_text (graph_layout rules field) text ≡ Ok g) where
     -- How the lines of the text are read.
     pub graph_reads : Reads (graph_layout rules field) start (lines text) g
     graph_reads = let r = yield_reads (graph_layout rules field) 1 start (lines text) g h in rw r.result at r.reads
@@ -146,5 +146,5 @@ module _ (rules : Rules) (field : Field) where
     pub text_passes : Passed g
     text_passes = reads_pass graph_reads
 
-    pub text_passes_tests : passing (once LentLength (graph_lengths g) ∷ graph_tests g) (yields tt) ≡ yields (tt {0})
+    pub text_passes_tests : passing (once LentLength (graph_lengths g) ∷ graph_tests g) (Ok tt) ≡ Ok (tt {0})
     text_passes_tests = passed_passing text_passes

@@ -1,8 +1,8 @@
 -- The text of a subgraph (plan) of some graph is the text of a graph without weights.
+use Rattle.std.specs.Prelude.{Option, Some, option_map, Ok}
 use mathlib.Core.Path.{◌≡◌, refl, sym, ap, ap₂, ◌∙◌}
 use mathlib.Core.Bool.{Bool, true, false, not, cond, ◌&&◌}
 use mathlib.Core.List.{List, [], ◌∷◌, ◌++◌}
-use mathlib.Core.Option.{Option, some, map}
 use Prim.Native.Nat.{ℕ, suc, ◌+◌, ◌<◌}
 use native.Mathlib.Omega.{arith}
 use native.Mathlib.Decide.{ℕ_discrete}
@@ -13,7 +13,6 @@ use lib.ListN.{length, get_or, set, replicate, length-set, length-replicate, get
 use lib.Seq.{get_or_at, get_or-set_same, get_or-set_other}
 use Rattle.graph.specs.declared.Kind.{Kind}
 use Rattle.graph.specs.declared.Fault.TheVariants.{Sizes}
-use Rattle.graph.specs.Refusal.{yields}
 use Rattle.graph.specs.Graph.{Graph, graph_of, joins, joined}
 use Rattle.graph.proofs.Passing.{zero_one, up_to, lowest-some, none_some}
 use Rattle.graph.proofs.Ranges.{both}
@@ -36,7 +35,7 @@ module _ (g : Graph) where
   -- The edge of g with row r and column c is marked.
   record MarkedAt (marks : List ℕ) (r c : ℕ) : Type 0 where
     edge : ℕ
-    found : edge_with g r c ≡ some edge
+    found : edge_with g r c ≡ Some edge
     one : get_or marks edge 0 ≡ 1
 
   -- The rows and columns read so far are of as many edges as came, and each is marked.
@@ -46,7 +45,7 @@ module _ (g : Graph) where
     long : length b.marks ≡ g.edges
     marked : (j : ℕ) → j < length rs → MarkedAt b.marks (get_or rs j 0) (get_or cs j 0)
 
-  module _ {b : Marked} {rs cs : List ℕ} (A : Alike b rs cs) (r c e : ℕ) (found : edge_with g r c ≡ some e) where
+  module _ {b : Marked} {rs cs : List ℕ} (A : Alike b rs cs) (r c e : ℕ) (found : edge_with g r c ≡ Some e) where
     -- An edge whose mark is 0 has the ends of no earlier one.
     none_earlier : (n : ℕ) (ws : List ℤ) → get_or b.marks e 0 ≡ 0 → joined (chosen_of n rs cs ws) (length rs) r c ≡ false
     none_earlier n ws clear = none_some (length rs) (joins (chosen_of n rs cs ws) r c) (λ j l. go j l (joins (chosen_of n rs cs ws) r c j) refl)
@@ -57,7 +56,7 @@ module _ (g : Graph) where
             let i : get_or rs j 0 ≡ r = eqb-true (get_or rs j 0) r w.0 in
             let k : get_or cs j 0 ≡ c = eqb-true (get_or cs j 0) c w.1 in
             let m = A.marked j l in
-            let f : ◌≡◌ {A = Option ℕ} (some m.edge) (some e) = sym m.found ∙ ap₂ (edge_with g) i k ∙ found in
+            let f : ◌≡◌ {A = Option ℕ} (Some m.edge) (Some e) = sym m.found ∙ ap₂ (edge_with g) i k ∙ found in
             let s : m.edge ≡ e = cc in
             zero_one (sym clear ∙ ap (λ (x : ℕ). get_or b.marks x 0) (sym s) ∙ m.one)
         go j l false is = refl
@@ -114,10 +113,10 @@ module _ (rules : Rules) (g : Graph) where
 
   -- A line that marks an edge adds it.
   line_adds : {b d : Marked} {rs cs : List ℕ} (ws : List ℤ) (o : Option (ℕ × ℕ)) → Alike g b rs cs → (m : Named g b o d)
-      → graph_edge (chosen_of g b.count rs cs ws) (map (λ e. (e.0, e.1, pos 0)) o)
+      → graph_edge (chosen_of g b.count rs cs ws) (option_map (λ e. (e.0, e.1, pos 0)) o)
       ≡ goes (chosen_of g d.count (rs ++ (m.row ∷ [])) (cs ++ (m.column ∷ [])) (ws ++ (pos 0 ∷ [])))
   line_adds {b} {d} {rs} {cs} ws o A m =
-      ap (λ (x : Option (ℕ × ℕ)). graph_edge (chosen_of g b.count rs cs ws) (map (λ e. (e.0, e.1, pos 0)) x)) m.read
+      ap (λ (x : Option (ℕ × ℕ)). graph_edge (chosen_of g b.count rs cs ws) (option_map (λ e. (e.0, e.1, pos 0)) x)) m.read
       ∙ edge_added (chosen_of g b.count rs cs ws) m.row m.column (pos 0)
       (chosen_of g d.count (rs ++ (m.row ∷ [])) (cs ++ (m.column ∷ [])) (ws ++ (pos 0 ∷ []))) (record {
         ends = m.ends;
@@ -164,8 +163,8 @@ module _ (rules : Rules) (g : Graph) where
       onward (λ p r. by_header fits (kind_header l g.kind (kind_read g (subgraph_kind l) u is)) r) (sizes_unmarked rest)
 
   -- A text that is read as a subgraph of g is one of a graph without weights.
-  pub subgraph_unmarked : (text : List ℕ) (x : List ℕ) → read_text (subgraph_layout rules g) text ≡ yields x
-      → (p : Graph) × (read_text (graph_layout rules Field.Pattern) text ≡ yields p)
+  pub subgraph_unmarked : (text : List ℕ) (x : List ℕ) → read_text (subgraph_layout rules g) text ≡ Ok x
+      → (p : Graph) × (read_text (graph_layout rules Field.Pattern) text ≡ Ok p)
   subgraph_unmarked text x h =
       let r = reads_unmarked (yield_reads (subgraph_layout rules g) 1 start (lines text) x h).reads in
       (r.0, reads_yield (graph_layout rules Field.Pattern) r.1 1)

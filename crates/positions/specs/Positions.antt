@@ -1,6 +1,5 @@
 -- What stands at a position of a lent index, and where two lists differ.
-use Rattle.std.specs.Prelude.{ℕ, ◌+◌, ◌<◌, ◌≡◌, Bool, true, List, eqb, get_or, set}
-use Rattle.std.proofs.Math.Option.{Option}
+use Rattle.std.specs.Prelude.{ℕ, ◌+◌, ◌<◌, ◌≡◌, Bool, true, List, eqb, get_or, set, Option}
 use Rattle.graph.specs.Refusal.{lowest}
 
 -- A number stands in a lent index at the next place of vertex v: after its lent offset and the edges counted there. It is counted then.

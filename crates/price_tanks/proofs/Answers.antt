@@ -1,4 +1,5 @@
 -- What a priced or refused problem leaves is what `price_tanks` writes.
+use Rattle.std.specs.Prelude.{Ok, Err}
 use Prim.Native.Nat.{ℕ, ◌+◌, ◌≤◌}
 use mathlib.Core.Path.{◌≡◌, refl, sym, ap, ap₂, ◌∙◌, subst}
 use mathlib.Core.Logic.{◌≢◌}
@@ -11,18 +12,14 @@ use borrow.Author.Tests.{ne_eqb}
 use Rattle.graph.specs.declared.Fault.{Fault}
 use Rattle.graph.specs.declared.Refusal.{Refusal}
 use Rattle.graph.specs.Limits.{longest_text}
-use Rattle.graph.specs.Refusal.{Outcome, yields, refuses, told}
+use Rattle.graph.specs.Refusal.{Outcome, refuses}
 use Rattle.graph.specs.Graph.{Graph, vertices}
 use Rattle.graph.proofs.Passing.{zero_one}
-use Rattle.graph.proofs.Told.{told_same}
 use Rattle.layout.specs.NumberText.{number_text}
-use Rattle.dual.specs.declared.PriceAnswer.{PriceAnswer}
-use Rattle.dual.specs.declared.PriceAnswer.TheVariants as PriceAnswer
 use Rattle.dual.specs.Solve.{without_sets}
-use Rattle.dual.specs.PriceGeneral.{price_general, price_says, DoublyPriced, GeneralLeft}
+use Rattle.dual.specs.PriceGeneral.{price_general, DoublyPriced, GeneralLeft}
 use Rattle.writer.specs.Written.{Written}
 use Rattle.report.specs.declared.Source.{Source}
-use Rattle.report.specs.declared.Source.TheVariants as Source
 use Rattle.report.specs.Report.{refused_line, line_room, Composed}
 use Rattle.report.specs.Programs.{Run, has, ends, came_from, written, Problem, problem_in, prices_from, price_problem, price_output, whole_text_room, PriceComposed}
 use Rattle.report.proofs.Parts.{composed_inside, exact_none}
@@ -38,11 +35,11 @@ module _ (g : Graph) (bound : List ℤ) {v e : ℕ} (vertex-lent : v ≡ vertice
   comes_to is = ap (came_from Source.Input) (sym (ap₂ (price_general g bound) vertex-lent edge-lent) ∙ is)
 
   -- It has answered a.
-  module _ {a : PriceAnswer} (says : price_says a ≡ told (price_general g bound v e)) where
-    outcome : {b : PriceAnswer} (o : Outcome (Unit {0})) → a ≡ b → price_says b ≡ told o → price_general g bound v e ≡ o
-    outcome o is tells = told_same (price_general g bound v e) o (sym says ∙ ap price_says is ∙ tells)
+  module _ {a : (Outcome (Unit {0}))} (says : a ≡ price_general g bound v e) where
+    outcome : {b : (Outcome (Unit {0}))} (o : Outcome (Unit {0})) → a ≡ b → b ≡ o → price_general g bound v e ≡ o
+    outcome o is tells = (sym says ∙ is ∙ tells)
 
-    pub refusal_left : {f : Refusal} {before after : List ℕ} {r : ℕ} → a ≡ PriceAnswer.Refused f → length before ≡ longest_text
+    pub refusal_left : {f : Refusal} {before after : List ℕ} {r : ℕ} → a ≡ Err f → length before ≡ longest_text
         → Composed line_room (refused_line Source.Input f.fault f.place) before after r → PricesWritten g bound before after r
     refusal_left {f} is long C =
         let ended = comes_to (outcome (refuses f.fault f.place) is refl) in
@@ -55,11 +52,11 @@ module _ (g : Graph) (bound : List ℤ) {v e : ℕ} (vertex-lent : v ≡ vertice
         }
 
     -- It has set these prices, and their text was written from lists that hold them.
-    pub prices_left : {vertex edge first rest : List ℤ} {before after : List ℕ} {r : ℕ} → a ≡ PriceAnswer.Priced → GeneralLeft g bound v e vertex edge
+    pub prices_left : {vertex edge first rest : List ℤ} {before after : List ℕ} {r : ℕ} → a ≡ (Ok tt) → GeneralLeft g bound v e vertex edge
         → first ≡ vertex → rest ≡ edge → length before ≡ longest_text → Written longest_text (number_text (first ++ rest)) after r
         → PricesWritten g bound before after r
     prices_left {vertex} {edge} is left firsts rests long W =
-        let accepts = outcome (yields tt) is refl in
+        let accepts = outcome (Ok tt) is refl in
         let vertex-long = left.vertex_long ∙ vertex-lent in
         let all = vertex ++ edge in
         let text : Run (Unit {0}) → List ℕ = written (λ u. number_text all) in

@@ -6,9 +6,8 @@ ghost use Rattle.graph.specs.Passed.{SizesHold};
 ghost use Rattle.report.specs.Programs.{PriceComposed};
 ghost use Rattle.price_tanks.specs.PricesWritten.{PricesWritten};
 
-use dual::PriceAnswer;
 use graph::{LONGEST_TEXT, MOST_EDGES, MOST_VERTICES, Shape};
-use problem_reader::ProblemAnswer;
+use problem_reader::SourceRefusal;
 use report::Source;
 
 // Prices a problem that has been read, and writes the text of its prices, those of the vertices first, or the call's refusal to `out`, 0 after its end. The
@@ -25,7 +24,7 @@ fn price_problem(
     requires out_len { length out.old ≡ longest_text }
     ensures { PricesWritten (graph_of s row.now column.now weight.now) bound.now out.old out.new result }
 {
-    let n = graph::vertex_count(s) as usize;
+    let n = s.vertex_count() as usize;
     let m = s.edges as usize;
     let mut vertex_price = [0i32; MOST_VERTICES];
     let mut edge_price = [0i32; MOST_EDGES];
@@ -38,12 +37,8 @@ fn price_problem(
         &mut vertex_price[..n],
         &mut edge_price[..m],
     ) {
-        PriceAnswer::Refused(refusal) => report::put_refused(out, Source::Input, refusal),
-        PriceAnswer::Priced => number_writer::put_numbers(
-            out,
-            &vertex_price[..n],
-            &edge_price[..m],
-        ),
+        Err(refusal) => report::put_refused(out, Source::Input, refusal),
+        Ok(()) => number_writer::put_numbers(out, &vertex_price[..n], &edge_price[..m]),
     }
 }
 
@@ -54,7 +49,7 @@ pub fn price_output(sheet: &[u8], limits: &[u8], out: &mut [u8]) -> usize
     ensures price_composed { PriceComposed sheet.now limits.now out.old out.new result }
 {
     if out.len() != LONGEST_TEXT {
-        filling::clear_bytes(out);
+        filling::fill(out, 0);
         return 0;
     }
     let mut row = [0u32; MOST_EDGES];
@@ -69,9 +64,9 @@ pub fn price_output(sheet: &[u8], limits: &[u8], out: &mut [u8]) -> usize
         &mut weight,
         &mut bound,
     ) {
-        ProblemAnswer::Refused { source, refusal } => report::put_refused(out, source, refusal),
-        ProblemAnswer::Read(s) => {
-            let n = graph::vertex_count(s) as usize;
+        Err(SourceRefusal { source, refusal }) => report::put_refused(out, source, refusal),
+        Ok(s) => {
+            let n = s.vertex_count() as usize;
             let m = s.edges as usize;
             price_problem(s, &row[..m], &column[..m], &weight[..m], &bound[..n], out)
         }

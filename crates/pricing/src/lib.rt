@@ -30,9 +30,7 @@ fn edge_price_of(
         return 0;
     }
     let ends = method::ends_at(s, row, column, e);
-    let first = ends.first;
-    let second = ends.second;
-    let cost = price[first] + price[second];
+    let cost = price[ends.first] + price[ends.second];
     method::value_at(weight, e) - cost
 }
 
@@ -50,11 +48,9 @@ pub fn edge_prices(
     requires edge_price_len { length edge_price.old ≡ s.edges }
     ensures { (e : ℕ) → e < s.edges → get_or edge_price.new e (pos 0) ≡ half_points (pos (edge_price_of (graph_of s row.now column.now weight.now) chosen.now (entries price.now) e)) }
 {
-    let mut e = 0;
-    while e < edge_price.len() {
+    for e in 0..edge_price.len() {
         let k = edge_price_of(s, row, column, weight, chosen, price, e);
         integers::put_natural(edge_price, e, 2 * k);
-        e += 1;
     }
 }
 
@@ -64,10 +60,8 @@ pub fn vertex_prices(price: &[u32; MOST_VERTICES], vertex_price: &mut [i32])
     requires by_index { (v : ℕ) → v < length vertex_price.old → (level ≤ entries price.now v) × (entries price.now v ≤ top_price) }
     ensures { (v : ℕ) → v < length vertex_price.old → get_or vertex_price.new v (pos 0) ≡ half_points (pos (entries price.now v - level)) }
 {
-    let mut v = 0;
-    while v < vertex_price.len() {
+    for v in 0..vertex_price.len() {
         let k = price[v] - LEVEL;
         integers::put_natural(vertex_price, v, 2 * k);
-        v += 1;
     }
 }

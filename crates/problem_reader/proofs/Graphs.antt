@@ -1,4 +1,5 @@
 -- The three arrays, of 1,024 numbers, that a graph is read into from a text of whichever layout.
+use Rattle.std.specs.Prelude.{Ok}
 use Prim.Native.Nat.{ℕ}
 use mathlib.Core.Path.{◌≡◌, sym, ap, ◌∙◌, subst}
 use mathlib.Core.Bool.{true}
@@ -6,7 +7,7 @@ use mathlib.Core.List.{List}
 use lib.IntN.{ℤ, pos}
 use lib.ListN.{length}
 use Rattle.graph.specs.declared.Shape.{Shape}
-use Rattle.graph.specs.Refusal.{Outcome, yields, told, reported, output}
+use Rattle.graph.specs.Refusal.{Outcome, reported, output}
 use Rattle.graph.specs.Graph.{Graph, shape_of, shape_in_range}
 use Rattle.graph.specs.Tests.{graph_lengths}
 use Rattle.graph.specs.Passed.{SizesHold}
@@ -14,9 +15,6 @@ use Rattle.graph.proofs.Ranges.{sizes_hold}
 use Rattle.layout.specs.declared.Rules.TheVariants.{New}
 use Rattle.layout.specs.declared.Field.TheVariants as Field
 use Rattle.layout.specs.GraphText.{read_graph}
-use Rattle.layout.specs.declared.GraphAnswer.{GraphAnswer}
-use Rattle.layout.specs.declared.GraphAnswer.TheVariants as GraphAnswer
-use Rattle.layout.specs.Answers.{graph_says}
 use Rattle.report.specs.declared.Source.TheVariants as Source
 use Rattle.report.specs.Programs.{came_from}
 use Rattle.problem_reader.proofs.Kept.{graph_whole, graph_yielded}
@@ -28,11 +26,17 @@ pub record GraphStored (o : Outcome Graph) (s : Shape) (row column : List ℕ) (
   pub row_long : length row ≡ 1024
   pub column_long : length column ≡ 1024
   pub weight_long : length weight ≡ 1024
-  pub same : o ≡ yields (stored_graph s row column weight)
+  pub same : o ≡ Ok (stored_graph s row column weight)
 
 -- The reader, which yields o, has answered s.
-module _ {o : Outcome Graph} (whole : (g : Graph) → o ≡ yields g → (graph_lengths g ≡ true) × (shape_in_range (shape_of g) ≡ true))
-    {a : GraphAnswer} (says : graph_says a ≡ told (reported shape_of o)) {s : Shape} (is : a ≡ GraphAnswer.Graph s) where
+module _ {o : Outcome Graph} (whole : (g : Graph) → o ≡ Ok g → (graph_lengths g ≡ true) × (shape_in_range (shape_of g) ≡ true))
+    {a : (Outcome Shape)} (says : a ≡ reported shape_of o) {s : Shape} (is : a ≡ Ok s) where
+  pub sizes_told : SizesHold s.kind s.rows s.columns s.edges
+  sizes_told =
+      let y = graph_yielded says is in
+      subst (λ (t : Shape). SizesHold t.kind t.rows t.columns t.edges) y.told
+      (sizes_hold y.value.kind y.value.rows y.value.columns y.value.edges (whole y.value y.yielded).1)
+
   pub graph_stored : {row column : List ℕ} {weight : List ℤ}
       → row ≡ output lent_edges 0 (λ g. g.row) o → column ≡ output lent_edges 0 (λ g. g.column) o → weight ≡ output weights_lent (pos 0) (λ g. g.weight) o
       → length row ≡ lent_edges → length column ≡ lent_edges → length weight ≡ weights_lent → GraphStored o s row column weight
@@ -44,13 +48,11 @@ module _ {o : Outcome Graph} (whole : (g : Graph) → o ≡ yields g → (graph_
       let stored = stored_is g s lent_edges weights_lent w.0 y.told (rows ∙ ap (output lent_edges 0 (λ h. h.row)) e)
       (columns ∙ ap (output lent_edges 0 (λ h. h.column)) e) (weights ∙ ap (output weights_lent (pos 0) (λ h. h.weight)) e) in
       record {
-        sizes =
-            subst (λ (t : Shape). SizesHold t.kind t.rows t.columns t.edges) y.told
-            (sizes_hold g.kind g.rows g.columns g.edges w.1);
+        sizes = sizes_told;
         row_long = row-long ∙ edges_lent;
         column_long = column-long ∙ edges_lent;
         weight_long = weight-long ∙ weights-lent;
-        same = e ∙ ap yields (sym stored);
+        same = e ∙ ap Ok (sym stored);
       }
 
 -- ---- a sheet that is read alone
@@ -60,7 +62,7 @@ abbrev pub lent_graph : List ℕ → Outcome Graph
 lent_graph sheet = read_graph lent_edges lent_edges weights_lent sheet
 
 module _ (sheet : List ℕ) where
-  pub sheet-whole : (g : Graph) → lent_graph sheet ≡ yields g → (graph_lengths g ≡ true) × (shape_in_range (shape_of g) ≡ true)
+  pub sheet-whole : (g : Graph) → lent_graph sheet ≡ Ok g → (graph_lengths g ≡ true) × (shape_in_range (shape_of g) ≡ true)
   sheet-whole = graph_whole New Field.Integer lent_edges lent_edges weights_lent sheet
 
   -- How far the program comes with it.

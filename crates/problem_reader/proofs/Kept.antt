@@ -1,10 +1,10 @@
 -- What every line keeps holds of the result of a text: a graph's three lists are as long as its number of edges and its sizes are in range,
 -- numbers are as many as are asked for, and a subgraph has one mark for each edge. And what is yielded or refused where an answer says so.
+use Rattle.std.specs.Prelude.{Option, None, Some, Ok, Err}
 use Prim.Native.Nat.{ℕ, ◌+◌, ◌≤◌}
 use mathlib.Core.Path.{◌≡◌, refl, sym, ap, ◌∙◌, subst}
 use mathlib.Core.Bool.{Bool, true, false, cond, ◌&&◌, ◌||◌}
 use mathlib.Core.List.{List, [], ◌∷◌, ◌++◌}
-use mathlib.Core.Option.{Option, none, some}
 use native.Mathlib.Omega.{arith}
 use lib.Dec.{ltb, leb, eqb}
 use lib.IntN.{ℤ}
@@ -15,28 +15,20 @@ use Rattle.graph.specs.declared.Fault.{Fault}
 use Rattle.graph.specs.declared.Fault.TheVariants.{TextLength, Header, SizeLine, Sizes, LaterLine, Ends, Weight, SameEnds, LentLength, Disagreement}
 use Rattle.graph.specs.declared.Refusal.{Refusal}
 use Rattle.graph.specs.declared.Shape.{Shape}
-use Rattle.graph.specs.Refusal.{Outcome, yields, refuses, told, once, passing, reported}
+use Rattle.graph.specs.Refusal.{Outcome, refuses, once, passing, reported}
 use Rattle.graph.specs.Limits.{most_edges}
 use Rattle.graph.specs.Graph.{Graph, shape_of, up_to, shape_in_range, sizes_in_range, ends_in_range, weight_in_range, joined}
 use Rattle.graph.specs.Tests.{graph_lengths, graph_tests}
 use Rattle.graph.proofs.Ranges.{◌also◌}
 use Rattle.graph.proofs.Passing.{zero_one, once-yields, passes}
-use Rattle.graph.proofs.Told.{told_same}
 use Rattle.layout.specs.declared.Rules.{Rules}
 use Rattle.layout.specs.declared.Field.{Field}
 use Rattle.layout.specs.declared.Numbers.{Numbers}
-use Rattle.layout.specs.declared.GraphAnswer.{GraphAnswer}
-use Rattle.layout.specs.declared.GraphAnswer.TheVariants as GraphAnswer
-use Rattle.layout.specs.declared.NumbersAnswer.{NumbersAnswer}
-use Rattle.layout.specs.declared.NumbersAnswer.TheVariants as NumbersAnswer
-use Rattle.layout.specs.declared.SubgraphAnswer.{SubgraphAnswer}
-use Rattle.layout.specs.declared.SubgraphAnswer.TheVariants as SubgraphAnswer
 use Rattle.layout.specs.Text.{words, natural, integer, one_word, two_words, three_words, text_fits, lines, line_fits, blank_line, comment_line}
 use Rattle.layout.specs.Lines.{Step, goes, stops, State, start, sizing, reading, Layout, sized, begun, on_line, at_end, on_step, read_lines, read_text}
 use Rattle.layout.specs.GraphText.{no_edges, shape_from, graph_sizes, graph_edge, with_edge, edge_on, graph_layout, read_graph_by}
 use Rattle.layout.specs.NumberText.{most_numbers_by, in_range, outside, number_sizes, number_value, number_layout, read_numbers_by}
 use Rattle.layout.specs.SubgraphText.{Marked, subgraph_sizes, edge_with, subgraph_mark, subgraph_edge, subgraph_layout, read_subgraph_by}
-use Rattle.layout.specs.Answers.{graph_says, numbers_say, subgraph_says}
 
 module _ {H B R : Type 0} (L : Layout H B R) (P : B → Type 0) where
   -- A property that holds after any size line that goes on, and that any later line keeps that goes on.
@@ -84,27 +76,27 @@ module _ {H B R : Type 0} (L : Layout H B R) (P : B → Type 0) where
     line_keeps (sizing h) l t p e = on_sizing h l t (line_fits l) (blank_line l || comment_line l) (L.size_line h l) refl e
     line_keeps (reading b) l t p e = on_reading b l t (line_fits l) (blank_line l) (L.more b) (L.later_line b l) p refl refl e
 
-    end_keeps : (k : ℕ) (s : State H B) (r : R) → KeptIn s → at_end L k s ≡ yields r → Final r
+    end_keeps : (k : ℕ) (s : State H B) (r : R) → KeptIn s → at_end L k s ≡ Ok r → Final r
     unfolding at_end
     end_keeps k start r p e = zero_one (cc)
     end_keeps k (sizing h) r p e = zero_one (cc)
     end_keeps k (reading b) r p e = go (L.more b) refl e
       where
-        go : (m : Bool) → L.more b ≡ m → cond m (refuses LaterLine k) (yields (L.result b)) ≡ yields r → Final r
+        go : (m : Bool) → L.more b ≡ m → cond m (refuses LaterLine k) (Ok (L.result b)) ≡ Ok r → Final r
         go true q h = zero_one (cc)
         go false q h = let s : r ≡ L.result b = cc in record { state = b; keeps = p; full = q; same = s }
 
-    lines_keep : (k : ℕ) (s : State H B) (ls : List (List ℕ)) (r : R) → KeptIn s → read_lines L k s ls ≡ yields r → Final r
+    lines_keep : (k : ℕ) (s : State H B) (ls : List (List ℕ)) (r : R) → KeptIn s → read_lines L k s ls ≡ Ok r → Final r
     unfolding read_lines
     lines_keep k s [] r p e = end_keeps k s r p e
     lines_keep k s (l ∷ ls) r p e = go (on_line L s l) refl e (λ t. lines_keep (k + 1) t ls r)
       where
-        go : (o : Step (State H B)) → on_line L s l ≡ o → on_step k o (λ t. read_lines L (k + 1) t ls) ≡ yields r →
-            ((t : State H B) → KeptIn t → read_lines L (k + 1) t ls ≡ yields r → Final r) → Final r
+        go : (o : Step (State H B)) → on_line L s l ≡ o → on_step k o (λ t. read_lines L (k + 1) t ls) ≡ Ok r →
+            ((t : State H B) → KeptIn t → read_lines L (k + 1) t ls ≡ Ok r → Final r) → Final r
         go (goes t) is h ih = ih t (line_keeps s l t p is) h
         go (stops f) is h ih = zero_one (cc)
 
-    pub text_keeps : (text : List ℕ) (r : R) → read_text L text ≡ yields r → Final r
+    pub text_keeps : (text : List ℕ) (r : R) → read_text L text ≡ Ok r → Final r
     text_keeps text r e = lines_keep 1 start (lines text) r tt e
 
 -- A graph of which some edges are read: its three lists are equally long, and no longer than its number of edges.
@@ -115,8 +107,8 @@ pub record Partial (g : Graph) : Type 0 where
   pub sizes : shape_in_range (shape_of g) ≡ true
 
 sizes_partial : (kind : Kind) (o : Option (ℕ × ℕ × ℕ)) (g : Graph) → graph_sizes kind o ≡ goes g → Partial g
-sizes_partial kind none g e = zero_one (cc)
-sizes_partial kind (some s) g e = go (shape_in_range (shape_from kind s)) refl e
+sizes_partial kind None g e = zero_one (cc)
+sizes_partial kind (Some s) g e = go (shape_in_range (shape_from kind s)) refl e
   where
     go : (b : Bool) → shape_in_range (shape_from kind s) ≡ b → cond b (goes (no_edges (shape_from kind s))) (stops Sizes) ≡ goes g → Partial g
     go true q h =
@@ -140,8 +132,8 @@ with-edge g r c w m p =
     }
 
 edge_partial : (g : Graph) (o : Option (ℕ × ℕ × ℤ)) (d : Graph) → ltb (length g.row) g.edges ≡ true → Partial g → graph_edge g o ≡ goes d → Partial d
-edge_partial g none d m p e = zero_one (cc)
-edge_partial g (some s) d m p e =
+edge_partial g None d m p e = zero_one (cc)
+edge_partial g (Some s) d m p e =
     go (ends_in_range g.kind g.rows g.columns s.0 s.1) (weight_in_range s.2) (joined g (length g.row) s.0 s.1) e
   where
     go : (a b c : Bool) → cond a (cond b (cond c (stops SameEnds) (goes (with_edge g s.0 s.1 s.2))) (stops Weight)) (stops Ends) ≡ goes d → Partial d
@@ -157,7 +149,7 @@ graph_kept rules field = record {
 }
 
 -- A graph that is read has as many rows, columns and weights as edges, and sizes in range.
-pub graph_whole : (rules : Rules) (field : Field) (r c w : ℕ) (text : List ℕ) (g : Graph) → read_graph_by rules field r c w text ≡ yields g →
+pub graph_whole : (rules : Rules) (field : Field) (r c w : ℕ) (text : List ℕ) (g : Graph) → read_graph_by rules field r c w text ≡ Ok g →
     (graph_lengths g ≡ true) × (shape_in_range (shape_of g) ≡ true)
 unfolding read_graph_by
 graph_whole rules field r c w text g e =
@@ -177,8 +169,8 @@ abbrev Few : ℕ → List ℤ → Type 0
 Few count zs = length zs ≤ count
 
 sizes_few : (count : ℕ) (o : Option (ℕ × ℕ)) (zs : List ℤ) → number_sizes count o ≡ goes zs → Few count zs
-sizes_few count none zs e = zero_one (cc)
-sizes_few count (some s) zs e = go (eqb s.0 count && eqb s.1 1) e
+sizes_few count None zs e = zero_one (cc)
+sizes_few count (Some s) zs e = go (eqb s.0 count && eqb s.1 1) e
   where
     go : (b : Bool) → cond b (goes []) (stops Sizes) ≡ goes zs → Few count zs
     go true h = let i : [] ≡ zs = cc in subst (Few count) i (omega arith)
@@ -186,8 +178,8 @@ sizes_few count (some s) zs e = go (eqb s.0 count && eqb s.1 1) e
 
 value-few : (rules : Rules) (what : Numbers) (count : ℕ) (zs : List ℤ) (o : Option ℤ) (xs : List ℤ) → ltb (length zs) count ≡ true → number_value rules what zs o ≡ goes xs →
     Few count xs
-value-few rules what count zs none xs m e = zero_one (cc)
-value-few rules what count zs (some z) xs m e = go (in_range rules what z) e
+value-few rules what count zs None xs m e = zero_one (cc)
+value-few rules what count zs (Some z) xs m e = go (in_range rules what z) e
   where
     go : (b : Bool) → cond b (goes (zs ++ (z ∷ []))) (stops (outside what)) ≡ goes xs → Few count xs
     go true h =
@@ -209,7 +201,7 @@ pub record AllRead (count n : ℕ) (zs : List ℤ) : Type 0 where
   pub read : length zs ≡ count
   pub lent : n ≡ count
 
-pub numbers_filled : (rules : Rules) (what : Numbers) (count n : ℕ) (text : List ℕ) (zs : List ℤ) → read_numbers_by rules what count n text ≡ yields zs →
+pub numbers_filled : (rules : Rules) (what : Numbers) (count n : ℕ) (text : List ℕ) (zs : List ℤ) → read_numbers_by rules what count n text ≡ Ok zs →
     AllRead count n zs
 unfolding read_numbers_by
 numbers_filled rules what count n text zs e =
@@ -227,8 +219,8 @@ abbrev Whole : Graph → Marked → Type 0
 Whole g b = length b.marks ≡ g.edges
 
 sizes_whole : (g : Graph) (o : Option (ℕ × ℕ × ℕ)) (b : Marked) → subgraph_sizes g o ≡ goes b → Whole g b
-sizes_whole g none b e = zero_one (cc)
-sizes_whole g (some s) b e =
+sizes_whole g None b e = zero_one (cc)
+sizes_whole g (Some s) b e =
     go (sizes_in_range g.kind s.0 s.1 s.2) (eqb s.0 g.rows && eqb s.1 g.columns && leb s.2 g.edges) e
   where
     go : (p q : Bool) →
@@ -239,8 +231,8 @@ sizes_whole g (some s) b e =
     go false q h = zero_one (cc)
 
 mark_whole : (g : Graph) (b : Marked) (o : Option ℕ) (d : Marked) → Whole g b → subgraph_mark b o ≡ goes d → Whole g d
-mark_whole g b none d p e = zero_one (cc)
-mark_whole g b (some k) d p e = go (eqb (get_or b.marks k 0) 0) e
+mark_whole g b None d p e = zero_one (cc)
+mark_whole g b (Some k) d p e = go (eqb (get_or b.marks k 0) 0) e
   where
     go : (q : Bool) → cond q (goes (record { count = b.count; came = b.came + 1; marks = set b.marks k 1 })) (stops SameEnds) ≡ goes d → Whole g d
     go true h =
@@ -249,8 +241,8 @@ mark_whole g b (some k) d p e = go (eqb (get_or b.marks k 0) 0) e
     go false h = zero_one (cc)
 
 edge_whole : (g : Graph) (b : Marked) (o : Option (ℕ × ℕ)) (d : Marked) → Whole g b → subgraph_edge g b o ≡ goes d → Whole g d
-edge_whole g b none d p e = zero_one (cc)
-edge_whole g b (some s) d p e = go (ends_in_range g.kind g.rows g.columns s.0 s.1) e
+edge_whole g b None d p e = zero_one (cc)
+edge_whole g b (Some s) d p e = go (ends_in_range g.kind g.rows g.columns s.0 s.1) e
   where
     go : (q : Bool) → cond q (subgraph_mark b (edge_with g s.0 s.1)) (stops Ends) ≡ goes d → Whole g d
     go true h = mark_whole g b (edge_with g s.0 s.1) d p h
@@ -263,7 +255,7 @@ subgraph_kept rules g = record {
 }
 
 -- A subgraph that is read has a mark for each edge.
-pub subgraph_whole : (rules : Rules) (g : Graph) (n : ℕ) (text : List ℕ) (x : List ℕ) → read_subgraph_by rules g n text ≡ yields x → length x ≡ g.edges
+pub subgraph_whole : (rules : Rules) (g : Graph) (n : ℕ) (text : List ℕ) (x : List ℕ) → read_subgraph_by rules g n text ≡ Ok x → length x ≡ g.edges
 unfolding read_subgraph_by
 subgraph_whole rules g n text x e =
     let rest = read_text (subgraph_layout rules g) text in
@@ -274,38 +266,38 @@ subgraph_whole rules g n text x e =
 -- What is yielded, where b is reported of it.
 pub record Yielded {A B : Type 0} (f : A → B) (o : Outcome A) (b : B) : Type 0 where
   pub value : A
-  pub yielded : o ≡ yields value
+  pub yielded : o ≡ Ok value
   pub told : f value ≡ b
 
 module _ {A B : Type 0} (f : A → B) where
-  pub reported-yields : (o : Outcome A) (b : B) → yields b ≡ reported f o → Yielded f o b
-  reported-yields (yields a) b e = let s : f a ≡ b = cc in record { value = a; yielded = refl; told = s }
-  reported-yields (refuses fault place) b e = zero_one (cc)
+  pub reported-yields : (o : Outcome A) (b : B) → Ok b ≡ reported f o → Yielded f o b
+  reported-yields (Ok a) b e = let s : f a ≡ b = cc in record { value = a; yielded = refl; told = s }
+  reported-yields (Err refusal) b e = zero_one (cc)
 
   pub reported-refuses : (o : Outcome A) (fault : Fault) (place : ℕ) → refuses fault place ≡ reported f o → o ≡ refuses fault place
-  reported-refuses (yields a) fault place e = zero_one (cc)
-  reported-refuses (refuses g p) fault place e = cc
+  reported-refuses (Ok a) fault place e = zero_one (cc)
+  reported-refuses (Err refusal) fault place e = cc
 
 -- What the readers' answers say of the outcomes that they report.
-module _ {a : GraphAnswer} {o : Outcome Graph} (says : graph_says a ≡ told (reported shape_of o)) where
-  pub graph_yielded : {s : Shape} → a ≡ GraphAnswer.Graph s → Yielded shape_of o s
-  graph_yielded {s} is = reported-yields shape_of o s (told_same (yields s) (reported shape_of o) (sym (ap graph_says is) ∙ says))
+module _ {a : (Outcome Shape)} {o : Outcome Graph} (says : a ≡ reported shape_of o) where
+  pub graph_yielded : {s : Shape} → a ≡ Ok s → Yielded shape_of o s
+  graph_yielded {s} is = reported-yields shape_of o s ((sym (is) ∙ says))
 
-  pub graph_refused : {r : Refusal} → a ≡ GraphAnswer.Refused r → o ≡ refuses r.fault r.place
-  graph_refused {r} is = reported-refuses shape_of o r.fault r.place (told_same (refuses r.fault r.place) (reported shape_of o) (sym (ap graph_says is) ∙ says))
+  pub graph_refused : {r : Refusal} → a ≡ Err r → o ≡ refuses r.fault r.place
+  graph_refused {r} is = reported-refuses shape_of o r.fault r.place ((sym (is) ∙ says))
 
-module _ {a : NumbersAnswer} {o : Outcome (List ℤ)} (says : numbers_say a ≡ told (reported (λ zs. tt {0}) o)) where
-  pub numbers_yielded : a ≡ NumbersAnswer.Read → Yielded (λ zs. tt {0}) o tt
-  numbers_yielded is = reported-yields (λ zs. tt {0}) o tt (told_same (yields tt) (reported (λ zs. tt {0}) o) (sym (ap numbers_say is) ∙ says))
+module _ {a : (Outcome (Unit {0}))} {o : Outcome (List ℤ)} (says : a ≡ reported (λ zs. tt {0}) o) where
+  pub numbers_yielded : a ≡ (Ok tt) → Yielded (λ zs. tt {0}) o tt
+  numbers_yielded is = reported-yields (λ zs. tt {0}) o tt ((sym (is) ∙ says))
 
-  pub numbers_refused : {r : Refusal} → a ≡ NumbersAnswer.Refused r → o ≡ refuses r.fault r.place
+  pub numbers_refused : {r : Refusal} → a ≡ Err r → o ≡ refuses r.fault r.place
   numbers_refused {r} is = reported-refuses (λ zs. tt {0}) o r.fault r.place
-      (told_same (refuses r.fault r.place) (reported (λ zs. tt {0}) o) (sym (ap numbers_say is) ∙ says))
+      ((sym (is) ∙ says))
 
-module _ {a : SubgraphAnswer} {o : Outcome (List ℕ)} (says : subgraph_says a ≡ told (reported (λ x. tt {0}) o)) where
-  pub subgraph_yielded : a ≡ SubgraphAnswer.Read → Yielded (λ x. tt {0}) o tt
-  subgraph_yielded is = reported-yields (λ x. tt {0}) o tt (told_same (yields tt) (reported (λ x. tt {0}) o) (sym (ap subgraph_says is) ∙ says))
+module _ {a : (Outcome (Unit {0}))} {o : Outcome (List ℕ)} (says : a ≡ reported (λ x. tt {0}) o) where
+  pub subgraph_yielded : a ≡ (Ok tt) → Yielded (λ x. tt {0}) o tt
+  subgraph_yielded is = reported-yields (λ x. tt {0}) o tt ((sym (is) ∙ says))
 
-  pub subgraph_refused : {r : Refusal} → a ≡ SubgraphAnswer.Refused r → o ≡ refuses r.fault r.place
+  pub subgraph_refused : {r : Refusal} → a ≡ Err r → o ≡ refuses r.fault r.place
   subgraph_refused {r} is = reported-refuses (λ x. tt {0}) o r.fault r.place
-      (told_same (refuses r.fault r.place) (reported (λ x. tt {0}) o) (sym (ap subgraph_says is) ∙ says))
+      ((sym (is) ∙ says))

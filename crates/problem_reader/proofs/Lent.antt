@@ -1,4 +1,5 @@
 -- The arrays that a problem is read into.
+use Rattle.std.specs.Prelude.{Ok, Err, Result}
 use Prim.Native.Nat.{ℕ, ◌-◌}
 use mathlib.Core.Path.{◌≡◌, refl, sym, ap, ap₂, ◌∙◌, subst}
 use mathlib.Core.Bool.{true}
@@ -12,7 +13,7 @@ use Rattle.graph.specs.declared.Fault.TheVariants.{LentLength}
 use Rattle.graph.specs.declared.Refusal.{Refusal}
 use Rattle.graph.specs.declared.Shape.{Shape}
 use Rattle.graph.specs.Limits.{most_vertices}
-use Rattle.graph.specs.Refusal.{Outcome, yields, refuses, once, filled}
+use Rattle.graph.specs.Refusal.{Outcome, once, filled}
 use Rattle.graph.specs.Graph.{Graph, graph_of, shape_of, shape_in_range, vertices, vertices_in}
 use Rattle.graph.specs.Tests.{graph_lengths}
 use Rattle.graph.specs.Passed.{SizesHold}
@@ -25,10 +26,8 @@ use Rattle.layout.specs.GraphText.{read_graph}
 use Rattle.layout.specs.NumberText.{read_numbers}
 use Rattle.lent.proofs.Lengths.{lengths_hold}
 use Rattle.report.specs.declared.Source.{Source}
-use Rattle.report.specs.declared.Source.TheVariants as Source
 use Rattle.report.specs.Programs.{Run, has, ends, run_reported, run_output, came_from, and_then, Problem, read_bounds, read_problem, problem_in}
-use Rattle.problem_reader.specs.declared.ProblemAnswer.{ProblemAnswer}
-use Rattle.problem_reader.specs.declared.ProblemAnswer.TheVariants as ProblemAnswer
+use Rattle.problem_reader.specs.declared.SourceRefusal.{SourceRefusal}
 use Rattle.problem_reader.specs.Problem.{problem_shape, problem_says, ProblemLeft}
 use Rattle.problem_reader.proofs.Kept.{graph_whole, numbers_filled}
 use Rattle.problem_reader.proofs.Answered.{with_bounds}
@@ -56,25 +55,25 @@ stored_is g s n k {row} {column} {weight} lengths told rows columns weights =
 
 -- A problem that is read is a graph and bounds that are read.
 pub record ReadParts (r c w b : ℕ) (sheet limits : List ℕ) (P : Problem) : Type 0 where
-  pub graph_read : read_graph r c w sheet ≡ yields P.graph
-  pub bounds_read : read_bounds b (vertices P.graph) limits ≡ yields P.bound
+  pub graph_read : read_graph r c w sheet ≡ Ok P.graph
+  pub bounds_read : read_bounds b (vertices P.graph) limits ≡ Ok P.bound
 
 module _ (r c w b : ℕ) (sheet limits : List ℕ) where
   read_parts : (P : Problem) → read_problem r c w b sheet limits ≡ has P → ReadParts r c w b sheet limits P
   unfolding read_problem
   read_parts P = go (read_graph r c w sheet) refl
     where
-      bounds : (g : Graph) (o : Outcome (List ℤ)) → read_graph r c w sheet ≡ yields g → read_bounds b (vertices g) limits ≡ o → with_bounds g o ≡ has P
+      bounds : (g : Graph) (o : Outcome (List ℤ)) → read_graph r c w sheet ≡ Ok g → read_bounds b (vertices g) limits ≡ o → with_bounds g o ≡ has P
           → ReadParts r c w b sheet limits P
-      bounds g (yields zs) is e h =
+      bounds g (Ok zs) is e h =
           let p : ◌≡◌ {A = Problem} (record { graph = g; bound = zs }) P = cc in
           subst (ReadParts r c w b sheet limits) p (record { graph_read = is; bounds_read = e })
-      bounds g (refuses fault place) is e h = zero_one (cc)
+      bounds g (Err refusal) is e h = zero_one (cc)
 
       go : (o : Outcome Graph) → read_graph r c w sheet ≡ o
           → and_then (came_from Source.Sheet o) (λ g. with_bounds g (read_bounds b (vertices g) limits)) ≡ has P → ReadParts r c w b sheet limits P
-      go (yields g) is h = bounds g (read_bounds b (vertices g) limits) is refl h
-      go (refuses fault place) is h = zero_one (cc)
+      go (Ok g) is h = bounds g (read_bounds b (vertices g) limits) is refl h
+      go (Err refusal) is h = zero_one (cc)
 
 -- The arrays have room for the problem, and hold it.
 pub record Stored (sheet limits : List ℕ) (s : Shape) (row column : List ℕ) (weight bound : List ℤ) : Type 0 where
@@ -140,14 +139,12 @@ module _ (sheet limits : List ℕ) where
   lent_is = lengths_lent (λ r c w b. read_problem r c w b sheet limits)
 
   -- The reader of a problem has answered a.
-  module _ {a : ProblemAnswer} (says : problem_says a ≡ run_reported problem_shape (lent_problem sheet limits)) where
-    pub problem_ended : {source : Source} {f : Refusal} → a ≡ ProblemAnswer.Refused source f → ends source f.fault f.place ≡ problem_in sheet limits
+  module _ {a : Result Shape SourceRefusal} (says : problem_says a ≡ run_reported problem_shape (lent_problem sheet limits)) where
+    pub problem_ended : {source : Source} {f : Refusal} → a ≡ Err (record { source = source; refusal = f }) → ends source f.fault f.place ≡ problem_in sheet limits
     problem_ended {source} {f} is =
         told-ends (lent_problem sheet limits) source f.fault f.place (sym (ap problem_says is) ∙ says) ∙ lent_is
 
-    module _ {row column : List ℕ} {weight bound : List ℤ}
-        (L : ProblemLeft (lent_problem sheet limits) lent_edges lent_edges weights_lent bounds_lent row column weight bound)
-        {s : Shape} (is : a ≡ ProblemAnswer.Read s) where
+    module _ {s : Shape} (is : a ≡ Ok s) where
       told-problem : ShapeTold (lent_problem sheet limits) s
       told-problem = told-has (lent_problem sheet limits) s (sym (ap problem_says is) ∙ says)
 
@@ -160,37 +157,39 @@ module _ (sheet limits : List ℕ) where
       whole : (graph_lengths P.graph ≡ true) × (shape_in_range (shape_of P.graph) ≡ true)
       whole = graph_whole New Field.Integer lent_edges lent_edges weights_lent sheet P.graph parts.graph_read
 
-      told-sizes : SizesHold s.kind s.rows s.columns s.edges
+      pub told-sizes : SizesHold s.kind s.rows s.columns s.edges
       told-sizes =
           subst (λ (t : Shape). SizesHold t.kind t.rows t.columns t.edges) told-problem.shape
           (sizes_hold P.graph.kind P.graph.rows P.graph.columns P.graph.edges whole.1)
 
-      graph_stored : stored_graph s row column weight ≡ P.graph
-      graph_stored =
-          let e = told-problem.is in
-          stored_is P.graph s lent_edges weights_lent whole.0 told-problem.shape
-          (L.rows ∙ ap (run_output lent_edges 0 (λ (Q : Problem). Q.graph.row)) e)
-          (L.columns ∙ ap (run_output lent_edges 0 (λ (Q : Problem). Q.graph.column)) e)
-          (L.weights ∙ ap (run_output weights_lent (pos 0) (λ (Q : Problem). Q.graph.weight)) e)
+      module _ {row column : List ℕ} {weight bound : List ℤ}
+          (L : ProblemLeft (lent_problem sheet limits) lent_edges lent_edges weights_lent bounds_lent row column weight bound) where
+        graph_stored : stored_graph s row column weight ≡ P.graph
+        graph_stored =
+            let e = told-problem.is in
+            stored_is P.graph s lent_edges weights_lent whole.0 told-problem.shape
+            (L.rows ∙ ap (run_output lent_edges 0 (λ (Q : Problem). Q.graph.row)) e)
+            (L.columns ∙ ap (run_output lent_edges 0 (λ (Q : Problem). Q.graph.column)) e)
+            (L.weights ∙ ap (run_output weights_lent (pos 0) (λ (Q : Problem). Q.graph.weight)) e)
 
-      bounds_stored : take (vertices_in s) bound ≡ P.bound
-      bounds_stored =
-          let n = vertices P.graph in
-          let rest = read_numbers Bounds n n limits in
-          let e = (passes (once LentLength (eqb bounds_lent most_vertices) ∷ []) rest P.bound parts.bounds_read).1 in
-          let long = (numbers_filled New Bounds n n limits P.bound e).read in
-          ap (λ (t : Shape). take (vertices_in t) bound) (sym told-problem.shape)
-          ∙ first_of bounds_lent n (pos 0) P.bound (L.bounds ∙ ap (run_output bounds_lent (pos 0) (λ (Q : Problem). Q.bound)) told-problem.is) long
+        bounds_stored : take (vertices_in s) bound ≡ P.bound
+        bounds_stored =
+            let n = vertices P.graph in
+            let rest = read_numbers Bounds n n limits in
+            let e = (passes (once LentLength (eqb bounds_lent most_vertices) ∷ []) rest P.bound parts.bounds_read).1 in
+            let long = (numbers_filled New Bounds n n limits P.bound e).read in
+            ap (λ (t : Shape). take (vertices_in t) bound) (sym told-problem.shape)
+            ∙ first_of bounds_lent n (pos 0) P.bound (L.bounds ∙ ap (run_output bounds_lent (pos 0) (λ (Q : Problem). Q.bound)) told-problem.is) long
 
-      pub stored_in : length row ≡ lent_edges → length column ≡ lent_edges → length weight ≡ weights_lent → length bound ≡ bounds_lent →
-          Stored sheet limits s row column weight bound
-      stored_in row-long column-long weight-long bound-long = record {
-        sizes = told-sizes;
-        row_long = row-long ∙ edges_lent;
-        column_long = column-long ∙ edges_lent;
-        weight_long = weight-long ∙ weights-lent;
-        bound_long = bound-long ∙ bounds-lent;
-        same =
-            ap₂ (λ (g : Graph) (zs : List ℤ). has (record { graph = g; bound = zs })) graph_stored bounds_stored
-            ∙ sym told-problem.is ∙ lent_is;
-      }
+        pub stored_in : length row ≡ lent_edges → length column ≡ lent_edges → length weight ≡ weights_lent → length bound ≡ bounds_lent →
+            Stored sheet limits s row column weight bound
+        stored_in row-long column-long weight-long bound-long = record {
+          sizes = told-sizes;
+          row_long = row-long ∙ edges_lent;
+          column_long = column-long ∙ edges_lent;
+          weight_long = weight-long ∙ weights-lent;
+          bound_long = bound-long ∙ bounds-lent;
+          same =
+              ap₂ (λ (g : Graph) (zs : List ℤ). has (record { graph = g; bound = zs })) graph_stored bounds_stored
+              ∙ sym told-problem.is ∙ lent_is;
+        }

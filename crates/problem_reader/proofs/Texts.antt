@@ -1,4 +1,5 @@
 -- What a program leaves of a buffer that is to have 32,768 bytes: in the end, and where it has lent it to a call which yields a text.
+use Rattle.std.specs.Prelude.{Ok, Err}
 use Prim.Native.Nat.{ℕ, ◌≤◌}
 use mathlib.Core.Path.{◌≡◌, sym, ap, ◌∙◌, subst}
 use mathlib.Core.List.{List}
@@ -6,11 +7,7 @@ use native.Mathlib.Omega.{arith}
 use lib.ListN.{length}
 use Rattle.graph.specs.declared.Refusal.{Refusal}
 use Rattle.graph.specs.Limits.{longest_text}
-use Rattle.graph.specs.Refusal.{Outcome, yields, refuses, told, reported, filled, output}
-use Rattle.graph.proofs.Told.{told_same}
-use Rattle.layout.specs.declared.TextAnswer.{TextAnswer}
-use Rattle.layout.specs.declared.TextAnswer.TheVariants as TextAnswer
-use Rattle.layout.specs.Answers.{text_says}
+use Rattle.graph.specs.Refusal.{Outcome, refuses, reported, filled, output}
 use Rattle.writer.specs.Written.{Written}
 use Rattle.report.specs.declared.Source.TheVariants as Source
 use Rattle.report.specs.Report.{refused_line, line_room, composed_bytes, composed_length, Composed}
@@ -39,23 +36,23 @@ writes : (of : ℕ → Outcome (List ℕ)) {n : ℕ} (o : Outcome (List ℕ)) �
 writes of o long is = ap (λ (p : Outcome (List ℕ)). written (λ text. text) (came_from Source.Input p)) (ap of (sym long) ∙ is)
 
 -- The call yields `of n` where its output has n bytes, and has answered a.
-module _ (of : ℕ → Outcome (List ℕ)) {before : List ℕ} (long : length before ≡ longest_text) {a : TextAnswer}
-    (says : text_says a ≡ told (reported length (of (length before)))) where
-  pub text_left : {k : ℕ} {after : List ℕ} → a ≡ TextAnswer.Written k → after ≡ output (length before) 0 (λ t. t) (of (length before))
+module _ (of : ℕ → Outcome (List ℕ)) {before : List ℕ} (long : length before ≡ longest_text) {a : (Outcome ℕ)}
+    (says : a ≡ reported length (of (length before))) where
+  pub text_left : {k : ℕ} {after : List ℕ} → a ≡ Ok k → after ≡ output (length before) 0 (λ t. t) (of (length before))
       → Composed whole_text_room (written (λ text. text) (came_from Source.Input (of longest_text))) before after k
   text_left {k} {after} is left =
-      let y = reported-yields length (of (length before)) k (told_same (yields k) (reported length (of (length before))) (sym (ap text_says is) ∙ says)) in
-      subst (λ (t : List ℕ). Composed whole_text_room t before after k) (sym (writes of (yields y.value) long y.yielded))
+      let y = reported-yields length (of (length before)) k ((sym (is) ∙ says)) in
+      subst (λ (t : List ℕ). Composed whole_text_room t before after k) (sym (writes of (Ok y.value) long y.yielded))
       (exact_text longest_text long (left ∙ ap (output (length before) 0 (λ t. t)) y.yielded) (sym y.told))
 
   -- The line of its refusal was written to what it left, which is as long.
-  pub refusal_left : {f : Refusal} {cleared after : List ℕ} {r : ℕ} → a ≡ TextAnswer.Refused f → length cleared ≡ length before
+  pub refusal_left : {f : Refusal} {cleared after : List ℕ} {r : ℕ} → a ≡ Err f → length cleared ≡ length before
       → Composed line_room (refused_line Source.Input f.fault f.place) cleared after r
       → Composed whole_text_room (written (λ text. text) (came_from Source.Input (of longest_text))) before after r
   refusal_left {f} {cleared} {after} {r} is kept C =
       let line = refused_line Source.Input f.fault f.place in
       let e = reported-refuses length (of (length before)) f.fault f.place
-      (told_same (refuses f.fault f.place) (reported length (of (length before))) (sym (ap text_says is) ∙ says)) in
+      ((sym (is) ∙ says)) in
       let D = exact_line longest_text (kept ∙ long) (omega arith) C in
       subst (λ (t : List ℕ). Composed whole_text_room t before after r) (sym (writes of (refuses f.fault f.place) long e))
       (record {

@@ -1,11 +1,12 @@
 -- The promises of request U7 are kept.
+use Rattle.std.specs.Prelude.{Ok}
 use Prim.Native.Nat.{ℕ, ◌-◌}
 use mathlib.Core.Path.{◌≡◌, sym, ap, ap₂, ◌∙◌, subst}
 use mathlib.Core.List.{List, ◌++◌}
 use lib.IntN.{ℤ, pos}
 use lib.ListN.{replicate}
 use Rattle.graph.specs.Limits.{most_vertices, most_edges, longest_text}
-use Rattle.graph.specs.Refusal.{Outcome, yields, output}
+use Rattle.graph.specs.Refusal.{Outcome, output}
 use Rattle.graph.specs.Graph.{Graph, vertices}
 use Rattle.graph.specs.Passed.{Passed, Bounded}
 use Rattle.graph.proofs.Passed.{bounds_passed}
@@ -108,7 +109,7 @@ module _ (sheet limits : List ℕ) (g : Graph) (U : UnitSheet sheet limits g) wh
 pub sheets-there-and-back : SheetsThereAndBack
 sheets-there-and-back = record {
   out = λ sheet limits g U.
-      (longest_text, unit_writes (passed sheet limits g U) U.two_sided ∙ ap yields (sym (sheet-out sheet limits g U)));
+      (longest_text, unit_writes (passed sheet limits g U) U.two_sided ∙ ap Ok (sym (sheet-out sheet limits g U)));
   back = sheet-back;
   read = λ sheet limits g U. subst (λ (text : List ℕ). ReadAs text g) (sym (sheet-back sheet limits g U)) (graph_back (passed sheet limits g U));
 }

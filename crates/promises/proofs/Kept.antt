@@ -1,4 +1,6 @@
 -- The promises are kept.
+use Rattle.graph.specs.declared.Refusal.{Refusal}
+use Rattle.std.specs.Prelude.{Ok, Err}
 use Prim.Native.Nat.{ℕ, ◌*◌, ◌<◌}
 use mathlib.Core.Path.{◌≡◌, refl, sym, ap, ap₂, ◌∙◌, subst}
 use mathlib.Core.Logic.{◌⊎◌, inl, inr, ◌↔◌}
@@ -17,7 +19,7 @@ use Rattle.graph.specs.declared.Fault.TheVariants.{TextLength, Header, SizeLine,
 use Rattle.graph.specs.declared.Fault.TheVariants.{LentLength, Bound, Mark, Degree, Price, OddSet, Uncovered, NotBipartite, Disagreement, WrongIndex}
 use Rattle.graph.specs.declared.Fault.TheVariants.{BoundNotOne, AssignmentLine, Sources, NotDoubled}
 use Rattle.graph.specs.Limits.{most_vertices, most_edges, most_numbers, greatest_price}
-use Rattle.graph.specs.Refusal.{number_of, Outcome, yields, refuses, Told, told, refused_with, Test, once, passing, output}
+use Rattle.graph.specs.Refusal.{number_of, Outcome, refuses, Told, told, refused_with, Test, once, passing, output}
 use Rattle.graph.specs.Graph.{Graph, vertices, bound_at, up_to}
 use Rattle.graph.specs.Subgraph.{mark_at, ends_at, degree, Feasible, weight_of}
 use Rattle.graph.specs.Tests.{graph_lengths, graph_tests, bound_test}
@@ -79,7 +81,9 @@ in-table Sources = refl
 in-table NotDoubled = refl
 
 same-fault : {f h : Fault} → ◌≡◌ {A = Outcome (Unit {0})} (refuses f 0) (refuses h 0) → f ≡ h
-same-fault e = cc
+same-fault {f} {h} e =
+    let q : ◌≡◌ {A = Refusal} (record { fault = f; place = 0 }) (record { fault = h; place = 0 }) = cc in
+    ap (λ (r : Refusal). r.fault) q
 
 pub numbers_listed : Listed
 numbers_listed = record {
@@ -93,8 +97,8 @@ numbers_listed = record {
 
 -- What refuses with a number does so with a fault.
 refused_by : {A : Type 0} (o : Outcome A) (i p : ℕ) → Refuses o i p → (f : Fault) × (o ≡ refuses f p)
-refused_by (yields a) i p e = zero_one (cc)
-refused_by (refuses f q) i p e = (f, ap (refuses f) (let s : q ≡ p = cc in s))
+refused_by (Ok a) i p e = zero_one (cc)
+refused_by (Err refusal) i p e = (refusal.fault, ap (refuses refusal.fault) (let s : refusal.place ≡ p = cc in s))
 
 -- The output of a call that yields anything.
 pub zero_on_refusal : {A N : Type 0} (z : N) (f : A → List N) → ZeroOnRefusal z f
@@ -115,7 +119,7 @@ zero-after-refusal = record {
 
 -- Tests that have been shown to pass yield the rest.
 passes_on : {A : Type 0} (ts : List Test) (o : Outcome A) → Passing ts → passing ts o ≡ o
-passes_on ts o p = pass ts (passes ts (yields tt) tt p).0 o
+passes_on ts o p = pass ts (passes ts (Ok tt) tt p).0 o
 
 graph_by_lines : (text : List ℕ) → text_fits text ≡ true → read_graph most_edges most_edges most_edges text ≡ read_text (graph_layout New Field.Integer) text
 unfolding read_graph_by
@@ -134,7 +138,7 @@ subgraph_by_lines : (g : Graph) (text : List ℕ) → Passing (once LentLength (
     read_subgraph g g.edges text ≡ read_text (subgraph_layout New g) text
 unfolding read_subgraph_by
 subgraph_by_lines g text p fits =
-    let w = once-yields LentLength (graph_lengths g) (graph_tests g) (yields tt) tt p in
+    let w = once-yields LentLength (graph_lengths g) (graph_tests g) (Ok tt) tt p in
     let rest = passing (once TextLength (text_fits text) ∷ []) (read_text (subgraph_layout New g) text) in
     once-passes LentLength (graph_lengths g && eqb g.edges g.edges) (graph_tests g) rest (w.0 also eq-eqb g.edges g.edges refl)
     ∙ passes_on (graph_tests g) rest w.1
@@ -160,27 +164,27 @@ told-alike {n = n} {q} {i} {p} e = let a : n ≡ i = cc in let b : q ≡ p = cc 
 -- A call refuses just where its tests do, or where they pass and what follows them refuses.
 module _ {A : Type 0} (ts : List Test) (rest : Outcome A) (i p : ℕ) where
   pub refused_just : Refuses (passing ts rest) i p ↔ (Refusing ts i p ⊎ (Passing ts × Refuses rest i p))
-  refused_just = (λ e. there (passing ts (yields tt)) refl (sym (ap told (passing-on ts rest)) ∙ e), λ w. ap told (passing-on ts rest) ∙ back w)
+  refused_just = (λ e. there (passing ts (Ok tt)) refl (sym (ap told (passing-on ts rest)) ∙ e), λ w. ap told (passing-on ts rest) ∙ back w)
     where
-      there : (o : Outcome (Unit {0})) → passing ts (yields tt) ≡ o → Refuses (go_on o rest) i p → Refusing ts i p ⊎ (Passing ts × Refuses rest i p)
-      there (yields u) is e = inr (is, e)
-      there (refuses f q) is e = inl (ap told is ∙ told-alike e)
+      there : (o : Outcome (Unit {0})) → passing ts (Ok tt) ≡ o → Refuses (go_on o rest) i p → Refusing ts i p ⊎ (Passing ts × Refuses rest i p)
+      there (Ok u) is e = inr (is, e)
+      there (Err refusal) is e = inl (ap told is ∙ told-alike e)
 
       same : (o : Outcome (Unit {0})) → Refuses o i p → Refuses (go_on o rest) i p
-      same (yields u) e = zero_one (cc)
-      same (refuses f q) e = told-alike e
+      same (Ok u) e = zero_one (cc)
+      same (Err refusal) e = told-alike e
 
-      back : Refusing ts i p ⊎ (Passing ts × Refuses rest i p) → Refuses (go_on (passing ts (yields tt)) rest) i p
-      back (inl e) = same (passing ts (yields tt)) e
+      back : Refusing ts i p ⊎ (Passing ts × Refuses rest i p) → Refuses (go_on (passing ts (Ok tt)) rest) i p
+      back (inl e) = same (passing ts (Ok tt)) e
       back (inr w) = ap (λ (o : Outcome (Unit {0})). told (go_on o rest)) w.0 ∙ w.1
 
   -- Where what follows is a result, its tests alone decide.
-  pub tests_alone : (a : A) → rest ≡ yields a → Refuses (passing ts rest) i p ↔ Refusing ts i p
+  pub tests_alone : (a : A) → rest ≡ Ok a → Refuses (passing ts rest) i p ↔ Refusing ts i p
   tests_alone a is = (λ e. alone (refused_just.0 e), λ e. refused_just.1 (inl e))
     where
       alone : Refusing ts i p ⊎ (Passing ts × Refuses rest i p) → Refusing ts i p
       alone (inl e) = e
-      alone (inr w) = zero_one (let z : told (yields a) ≡ refused_with i p = sym (ap told is) ∙ w.1 in cc)
+      alone (inr w) = zero_one (let z : told (Ok a) ≡ refused_with i p = sym (ap told is) ∙ w.1 in cc)
 
 solver_refuses : (g : Graph) (bound : List ℤ) (index : List ℕ) (lent : _) (i p : ℕ) → Refuses (solve g bound index lent) i p ↔ Refusing (solver_tests g bound index lent) i p
 unfolding solve
@@ -192,11 +196,11 @@ general-pricer_refuses g bound v e i p = (λ h. h, λ h. h)
 
 measuring-refuses : (g : Graph) (bound : List ℤ) (x : List ℕ) (P : Prices) (i p : ℕ) → Refuses (measure g bound x P) i p ↔ Refusing (measure_tests g bound x P) i p
 unfolding measure
-measuring-refuses g bound x P i p = tests_alone (measure_tests g bound x P) (yields (measures g bound x P)) i p (measures g bound x P) refl
+measuring-refuses g bound x P i p = tests_alone (measure_tests g bound x P) (Ok (measures g bound x P)) i p (measures g bound x P) refl
 
 writer_refuses : (g : Graph) (x : List ℕ) (n : ℕ) (i p : ℕ) → Refuses (write_subgraph g x n) i p ↔ Refusing (writer_tests g x n) i p
 unfolding write_subgraph
-writer_refuses g x n i p = tests_alone (writer_tests g x n) (yields (subgraph_text g x)) i p (subgraph_text g x) refl
+writer_refuses g x n i p = tests_alone (writer_tests g x n) (Ok (subgraph_text g x)) i p (subgraph_text g x) refl
 
 graph_reader_refuses : (r c w : ℕ) (text : List ℕ) (i p : ℕ) → Refuses (read_graph r c w text) i p ↔
     (Refusing (graph_reader_tests r c w text) i p ⊎ (Passing (graph_reader_tests r c w text) × Refuses (read_text (graph_layout New Field.Integer) text) i p))
@@ -215,11 +219,11 @@ subgraph_reader_refuses g n text i p = refused_just (subgraph_reader_tests g n t
 
 tidier_refuses : (g : Graph) (n : ℕ) (i p : ℕ) → Refuses (tidy_graph g n) i p ↔ Refusing (tidy_tests g n) i p
 unfolding tidy_graph
-tidier_refuses g n i p = tests_alone (tidy_tests g n) (yields (tidy_text g)) i p (tidy_text g) refl
+tidier_refuses g n i p = tests_alone (tidy_tests g n) (Ok (tidy_text g)) i p (tidy_text g) refl
 
 index_builder_refuses : (g : Graph) (n : ℕ) (i p : ℕ) → Refuses (build_index g n) i p ↔ Refusing (build_tests g n) i p
 unfolding build_index
-index_builder_refuses g n i p = tests_alone (build_tests g n) (yields (index_of g)) i p (index_of g) refl
+index_builder_refuses g n i p = tests_alone (build_tests g n) (Ok (index_of g)) i p (index_of g) refl
 
 index_tester_refuses : (g : Graph) (index : List ℕ) (i p : ℕ) → Refuses (test_index g index) i p ↔ Refusing (index_tests g index) i p
 unfolding test_index
@@ -227,7 +231,7 @@ index_tester_refuses g index i p = (λ e. e, λ e. e)
 
 assignment_writer_refuses : (g : Graph) (bound : List ℤ) (n : ℕ) (i p : ℕ) → Refuses (write_assignment g bound n) i p ↔ Refusing (assignment_tests g bound n) i p
 unfolding write_assignment
-assignment_writer_refuses g bound n i p = tests_alone (assignment_tests g bound n) (yields (assignment_text g)) i p (assignment_text g) refl
+assignment_writer_refuses g bound n i p = tests_alone (assignment_tests g bound n) (Ok (assignment_text g)) i p (assignment_text g) refl
 
 assignment_reader_refuses : (r c w b : ℕ) (text : List ℕ) (i p : ℕ) → Refuses (read_assignment r c w b text) i p ↔
     (Refusing (assignment_reader_tests r c w b text) i p ⊎ (Passing (assignment_reader_tests r c w b text) × Refuses (read_arcs text) i p))
@@ -265,18 +269,18 @@ solver-certifies g bound index lent S workspace L e =
 -- What has passed, as the laws of measuring take it, and back.
 pub passing-passed : {g : Graph} → Passing (once LentLength (graph_lengths g) ∷ graph_tests g) → Passed g
 passing-passed {g} p =
-    let w = once-yields LentLength (graph_lengths g) (graph_tests g) (yields tt) tt p in
-    graph_passed g w.0 (passes (graph_tests g) (yields tt) tt w.1).0
+    let w = once-yields LentLength (graph_lengths g) (graph_tests g) (Ok tt) tt p in
+    graph_passed g w.0 (passes (graph_tests g) (Ok tt) tt w.1).0
 
 pub passed_accepted : {g : Graph} {bound : List ℤ} → Passed g → Bounded (vertices g) bound → Accepts g bound
 passed_accepted {g} {bound} P B =
-    record { graph = passed_passing P; bound_long = B.long; bounds = pass (bound_test g bound ∷ []) (bounds_test g bound B) (yields tt) }
+    record { graph = passed_passing P; bound_long = B.long; bounds = pass (bound_test g bound ∷ []) (bounds_test g bound B) (Ok tt) }
 
 accepted_graph : {g : Graph} {bound : List ℤ} → Accepts g bound → Passed g
 accepted_graph A = passing-passed A.graph
 
 accepted_bounds : {g : Graph} {bound : List ℤ} → Accepts g bound → Bounded (vertices g) bound
-accepted_bounds {g} {bound} A = bounds_passed g bound A.bound_long (passes (bound_test g bound ∷ []) (yields tt) tt A.bounds).0
+accepted_bounds {g} {bound} A = bounds_passed g bound A.bound_long (passes (bound_test g bound ∷ []) (Ok tt) tt A.bounds).0
 
 covering_prices : {g : Graph} {bound : List ℤ} {P : Prices} → Covers g bound P → Priced g bound P
 covering_prices C = record {
@@ -325,20 +329,20 @@ index-laid-out g index e = let p = index_tested g index e in subst (LaidOut g) (
 pub index-lists-edges : IndexListsEdges
 index-lists-edges g index e = let p = index_tested g index e in subst (ListsEdges g) (sym p.is) (lists_edges g p.passed.sound)
 
-built_passes : (g : Graph) (n : ℕ) (index : List ℕ) → build_index g n ≡ yields index → test_index g index ≡ yields tt
+built_passes : (g : Graph) (n : ℕ) (index : List ℕ) → build_index g n ≡ Ok index → test_index g index ≡ Ok tt
 unfolding test_index
 built_passes g n index e =
     let p = index_built g n index e in
     let long = eq-eqb (length index) (index_numbers g) (p.long ∙ p.lent) in
     pass (index_tests g index) (λ k l. p.lengths also long, passes_join (graph_tests g) (index_test g index ∷ []) p.tests (given_index g index p.is))
-    (yields tt)
+    (Ok tt)
 
-passed_built : (g : Graph) (index : List ℕ) → test_index g index ≡ yields tt → build_index g (length index) ≡ yields index
+passed_built : (g : Graph) (index : List ℕ) → test_index g index ≡ Ok tt → build_index g (length index) ≡ Ok index
 unfolding build_index
 passed_built g index e =
     let p = index_tested g index e in
-    pass (build_tests g (length index)) (λ k l. p.lengths also eq-eqb (length index) (index_numbers g) p.lent, p.tests) (yields (index_of g))
-    ∙ ap (λ (xs : List ℕ). yields xs) (sym p.is)
+    pass (build_tests g (length index)) (λ k l. p.lengths also eq-eqb (length index) (index_numbers g) p.lent, p.tests) (Ok (index_of g))
+    ∙ ap (λ (xs : List ℕ). Ok xs) (sym p.is)
 
 pub one_index : OneIndex
 one_index = record {

@@ -1,4 +1,5 @@
 -- The promises of the two programs are kept.
+use Rattle.std.specs.Prelude.{Ok, Err}
 use Prim.Native.Nat.{ℕ, ◌+◌, ◌<◌}
 use mathlib.Core.Path.{◌≡◌, refl, sym, ap, ap₂, ◌∙◌, subst}
 use mathlib.Core.Bool.{Bool}
@@ -13,7 +14,7 @@ use Rattle.integers.proofs.Order.{between-true}
 use Rattle.graph.specs.declared.Kind.TheVariants.{Bipartite, General}
 use Rattle.graph.specs.declared.Fault.TheVariants.{NotBipartite}
 use Rattle.graph.specs.Limits.{most_vertices, most_edges, subgraph_bytes, greatest_bound, greatest_price}
-use Rattle.graph.specs.Refusal.{Outcome, yields, refuses}
+use Rattle.graph.specs.Refusal.{Outcome, refuses}
 use Rattle.graph.specs.Graph.{Graph, vertices, bound_at}
 use Rattle.graph.specs.Index.{index_of, index_numbers}
 use Rattle.graph.specs.Passed.{Passed, Bounded}
@@ -45,9 +46,9 @@ use Rattle.promises.proofs.Tidied.{sheet-passed}
 
 -- ---- what a program has come to
 
-came : {A : Type 0} (source : Source) (o : Outcome A) (a : A) → came_from source o ≡ has a → o ≡ yields a
-came source (yields b) a e = ap yields (let q : b ≡ a = cc in q)
-came source (refuses f p) a e = zero_one (cc)
+came : {A : Type 0} (source : Source) (o : Outcome A) (a : A) → came_from source o ≡ has a → o ≡ Ok a
+came source (Ok b) a e = ap Ok (let q : b ≡ a = cc in q)
+came source (Err refusal) a e = zero_one (cc)
 
 then_has : {A B : Type 0} (r : Run A) (next : A → Run B) (b : B) → and_then r next ≡ has b → (a : A) × (r ≡ has a) × (next a ≡ has b)
 then_has (has a) next b e = (a, refl, e)
@@ -58,7 +59,7 @@ then_has (ends source f p) next b e = zero_one (cc)
 -- A problem is read of two texts: its graph is that of the sheet, and its bounds are the numbers of the limits.
 pub record ProblemRead (sheet limits : List ℕ) (P : Problem) : Type 0 where
   pub graph : ReadAs sheet P.graph
-  pub bounds : read_numbers Numbers.Bounds (vertices P.graph) (vertices P.graph) limits ≡ yields P.bound
+  pub bounds : read_numbers Numbers.Bounds (vertices P.graph) (vertices P.graph) limits ≡ Ok P.bound
 
 module _ (sheet limits : List ℕ) (P : Problem) where
   abbrev with_bound : Graph → List ℤ → Run Problem
@@ -194,7 +195,7 @@ prices_priced g bound zs H covering =
 
 module _ (sheet limits plan prices : List ℕ) (P : Problem) (x : List ℕ) (zs : List ℤ) (R : MarkReads sheet limits plan prices P x zs) where
   -- What it writes, by what the measuring call yields.
-  mark_writes_line : (M : Measures) → measure P.graph P.bound x (prices_from P.graph zs) ≡ yields M → mark_output sheet limits plan prices ≡ measured_line M
+  mark_writes_line : (M : Measures) → measure P.graph P.bound x (prices_from P.graph zs) ≡ Ok M → mark_output sheet limits plan prices ≡ measured_line M
   unfolding mark_output
   mark_writes_line M is =
       ap (λ (q : Run Problem). written measured_line (and_then q (λ Q. mark_problem Q.graph Q.bound plan prices))) R.problem_read

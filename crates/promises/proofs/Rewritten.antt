@@ -1,4 +1,5 @@
 -- The promises of request U2 are kept.
+use Rattle.std.specs.Prelude.{Ok}
 use Prim.Native.Nat.{ℕ}
 use mathlib.Core.Path.{◌≡◌, refl, sym, ap, ◌∙◌}
 use mathlib.Core.Bool.{Bool, true, false, ◌||◌, or-true}
@@ -9,7 +10,7 @@ use lib.Signed.{◌≤ℤ◌}
 use Rattle.integers.proofs.Order.{between-true, le-between}
 use Rattle.graph.specs.declared.Fault.TheVariants as Fault
 use Rattle.graph.specs.Limits.{most_edges, greatest_price, greatest_old_price}
-use Rattle.graph.specs.Refusal.{Outcome, yields, refuses}
+use Rattle.graph.specs.Refusal.{Outcome, refuses}
 use Rattle.graph.specs.Graph.{Graph}
 use Rattle.graph.proofs.Passing.{zero_one, passes}
 use Rattle.layout.specs.declared.Rules.TheVariants.{New, Old}
@@ -50,7 +51,7 @@ read-sheets-pass text g e = text_passes_tests New Field.Integer text g ((graph-r
 
 -- ---- what the old rules take, as one of the four
 
-takes-yields : {A : Type 0} {o : Outcome A} {a : A} → o ≡ yields a → takes o ≡ true
+takes-yields : {A : Type 0} {o : Outcome A} {a : A} → o ≡ Ok a → takes o ≡ true
 takes-yields e = ap takes e
 
 abbrev any_of : Bool → Bool → Bool → Bool → Bool
@@ -70,18 +71,18 @@ any_fourth : (a b c : Bool) → any_of a b c true ≡ true
 any_fourth a b c = or-true (a || b || c)
 
 module _ (text : List ℕ) where
-  graph_old : (g : Graph) → read_graph_by Old Field.Integer most_edges most_edges most_edges text ≡ yields g → taken text ≡ true
+  graph_old : (g : Graph) → read_graph_by Old Field.Integer most_edges most_edges most_edges text ≡ Ok g → taken text ≡ true
   unfolding taken
   graph_old g e = rw (takes-yields e) (any_first (taken_as Field.Pattern text) (taken_as_numbers Bounds text) (taken_as_numbers Prices text))
 
-  pattern_old : (p : Graph) → read_graph_by Old Field.Pattern most_edges most_edges most_edges text ≡ yields p → taken text ≡ true
+  pattern_old : (p : Graph) → read_graph_by Old Field.Pattern most_edges most_edges most_edges text ≡ Ok p → taken text ≡ true
   unfolding taken
   pattern_old p e = rw (takes-yields e) (any_second (taken_as Field.Integer text) (taken_as_numbers Bounds text) (taken_as_numbers Prices text))
 
-  subgraph_old : (g : Graph) (x : List ℕ) → read_subgraph_by Old g g.edges text ≡ yields x → taken text ≡ true
+  subgraph_old : (g : Graph) (x : List ℕ) → read_subgraph_by Old g g.edges text ≡ Ok x → taken text ≡ true
   subgraph_old g x e = let p = (plan_of_some_graph Old text).0 (g, x, e) in pattern_old p.0 p.1
 
-  numbers_old : (what : Numbers) (count : ℕ) (zs : List ℤ) → read_numbers_by Old what count count text ≡ yields zs → taken text ≡ true
+  numbers_old : (what : Numbers) (count : ℕ) (zs : List ℤ) → read_numbers_by Old what count count text ≡ Ok zs → taken text ≡ true
   unfolding taken
   numbers_old Bounds count zs e = rw (numbers_taken Bounds text count zs e) (any_third (taken_as Field.Integer text) (taken_as Field.Pattern text) (taken_as_numbers Prices text))
   numbers_old Prices count zs e = rw (numbers_taken Prices text count zs e) (any_fourth (taken_as Field.Integer text) (taken_as Field.Pattern text) (taken_as_numbers Bounds text))
@@ -101,7 +102,7 @@ old-texts-rewritten = record {
 old_price : (z : ℤ) → in_range New Prices z ≡ true → z ≤ℤ pos greatest_old_price → in_range Old Prices z ≡ true
 old_price z h l = le-between (between-true (pos 0) (pos greatest_price) z h).0 l
 
-kept_numbers : (what : Numbers) (count : ℕ) (text : List ℕ) (zs : List ℤ) → AlsoIn New what Old what zs → read_numbers what count count text ≡ yields zs →
+kept_numbers : (what : Numbers) (count : ℕ) (text : List ℕ) (zs : List ℤ) → AlsoIn New what Old what zs → read_numbers what count count text ≡ Ok zs →
     rewrite_output text ≡ text
 kept_numbers what count text zs old e =
     let s = numbers_same what count count text zs old e in
@@ -142,17 +143,17 @@ module _ (text : List ℕ) where
   unfolding read_numbers_by read_subgraph_by
   all_refuse is = record {
     graph = λ g e.
-        let q : ◌≡◌ {A = Outcome Graph} (refuses Fault.Header 1) (yields g) =
+        let q : ◌≡◌ {A = Outcome Graph} (refuses Fault.Header 1) (Ok g) =
         sym line_no_graph ∙ ap (read_graph most_edges most_edges most_edges) (sym is) ∙ old-texts-rewritten.graph text g e in
         zero_one (cc);
     subgraph = λ g x e.
         let w = ap (read_subgraph g g.edges) (sym is) ∙ old-texts-rewritten.subgraph g text x e in
-        let q : ◌≡◌ {A = Outcome (List ℕ)} (refuses Fault.Header 1) (yields x) =
+        let q : ◌≡◌ {A = Outcome (List ℕ)} (refuses Fault.Header 1) (Ok x) =
         sym (line_no_subgraph g) ∙ (passes (subgraph_reader_tests g g.edges cannot_read) (read_text (subgraph_layout New g) cannot_read) x w).1 in
         zero_one (cc);
     numbers = λ what count zs e.
         let w = ap (read_numbers what count count) (sym is) ∙ old-texts-rewritten.numbers what count text zs e in
-        let q : ◌≡◌ {A = Outcome (List ℤ)} (refuses Fault.Header 1) (yields zs) =
+        let q : ◌≡◌ {A = Outcome (List ℤ)} (refuses Fault.Header 1) (Ok zs) =
         sym (line_no_numbers what count) ∙ (passes (number_reader_tests count count cannot_read) (read_text (number_layout New what count) cannot_read) zs w).1 in
         zero_one (cc);
   }

@@ -1,10 +1,10 @@
 -- What the solver yields of a graph and bounds that have passed: what is left to its tests of the kind and of the index.
+use Rattle.std.specs.Prelude.{Option, None, Some, Ok}
 use Prim.Native.Nat.{ℕ, suc}
 use mathlib.Core.Path.{◌≡◌, refl, sym, ap, ◌∙◌}
 use mathlib.Core.Logic.{◌≢◌}
 use mathlib.Core.Bool.{Bool, true, ◌&&◌}
 use mathlib.Core.List.{List, [], ◌∷◌, ◌++◌}
-use mathlib.Core.Option.{Option, none, some}
 use native.Mathlib.Omega.{arith}
 use lib.Dec.{eqb}
 use lib.IntN.{ℤ}
@@ -13,7 +13,7 @@ use borrow.Author.Tests.{eqb-true, eqb-false, eq-eqb}
 use Rattle.graph.specs.declared.Kind.TheVariants.{Bipartite, General}
 use Rattle.graph.specs.declared.Fault.TheVariants.{LentLength, NotBipartite, WrongIndex}
 use Rattle.graph.specs.Limits.{workspace_numbers}
-use Rattle.graph.specs.Refusal.{Outcome, yields, refuses, told, lowest, passing}
+use Rattle.graph.specs.Refusal.{Outcome, refuses, told, lowest, passing}
 use Rattle.graph.specs.Graph.{Graph, shape_of, vertices}
 use Rattle.graph.specs.Tests.{graph_lengths, graph_tests, bound_test, kind_test, is_bipartite}
 use Rattle.graph.specs.Index.{index_of, index_numbers, index_test, build_tests, build_index, test_index}
@@ -54,34 +54,34 @@ module _ {g : Graph} {bound : List ℤ} {lent : Lent} (P : Passed g) (B : Bounde
     lengths_right = passed_lengths P also (eq-eqb (length bound) (vertices g) B.long also others_right)
 
     -- What is left to the tests of the kind and of the index.
-    solver_comes : solve g bound index lent ≡ passing (kind_test g ∷ index_test g index ∷ []) (yields tt)
+    solver_comes : solve g bound index lent ≡ passing (kind_test g ∷ index_test g index ∷ []) (Ok tt)
     unfolding solve
     solver_comes =
         let rest = kind_test g ∷ index_test g index ∷ [] in
-        once-passes LentLength lengths (graph_tests g ++ (bound_test g bound ∷ rest)) (yields tt) lengths_right
-        ∙ passing-append (graph_tests g) (bound_test g bound ∷ rest) (yields tt)
-        ∙ pass (graph_tests g) (passed_tests P) (passing (bound_test g bound ∷ rest) (yields tt))
-        ∙ pass (bound_test g bound ∷ []) (bounds_test g bound B) (passing rest (yields tt))
+        once-passes LentLength lengths (graph_tests g ++ (bound_test g bound ∷ rest)) (Ok tt) lengths_right
+        ∙ passing-append (graph_tests g) (bound_test g bound ∷ rest) (Ok tt)
+        ∙ pass (graph_tests g) (passed_tests P) (passing (bound_test g bound ∷ rest) (Ok tt))
+        ∙ pass (bound_test g bound ∷ []) (bounds_test g bound B) (passing rest (Ok tt))
 
     -- A general graph is refused.
     pub general-refused : g.kind ≡ General → solve g bound index lent ≡ refuses NotBipartite 0
-    general-refused kind = solver_comes ∙ once-refuses NotBipartite (is_bipartite g.kind) (index_test g index ∷ []) (yields tt) (ap is_bipartite kind)
+    general-refused kind = solver_comes ∙ once-refuses NotBipartite (is_bipartite g.kind) (index_test g index ∷ []) (Ok tt) (ap is_bipartite kind)
 
     -- Of a bipartite one, what is left to the test of the index.
-    pub index_left : g.kind ≡ Bipartite → solve g bound index lent ≡ passing (index_test g index ∷ []) (yields tt)
-    index_left kind = solver_comes ∙ once-passes NotBipartite (is_bipartite g.kind) (index_test g index ∷ []) (yields tt) (ap is_bipartite kind)
+    pub index_left : g.kind ≡ Bipartite → solve g bound index lent ≡ passing (index_test g index ∷ []) (Ok tt)
+    index_left kind = solver_comes ∙ once-passes NotBipartite (is_bipartite g.kind) (index_test g index ∷ []) (Ok tt) (ap is_bipartite kind)
 
   -- It is taken with the index that is built of it.
-  pub solver_takes : g.kind ≡ Bipartite → (n : ℕ) (index : List ℕ) → build_index g n ≡ yields index → solve g bound index lent ≡ yields tt
+  pub solver_takes : g.kind ≡ Bipartite → (n : ℕ) (index : List ℕ) → build_index g n ≡ Ok index → solve g bound index lent ≡ Ok tt
   solver_takes kind n index built =
       let I = index_built g n index built in
-      index_left index (I.long ∙ I.lent) kind ∙ pass (index_test g index ∷ []) (given_index g index I.is) (yields tt)
+      index_left index (I.long ∙ I.lent) kind ∙ pass (index_test g index ∷ []) (given_index g index I.is) (Ok tt)
 
 -- The index of a graph that has passed is built where as many numbers are lent as it has.
-pub index_builds : {g : Graph} → Passed g → build_index g (index_numbers g) ≡ yields (index_of g)
+pub index_builds : {g : Graph} → Passed g → build_index g (index_numbers g) ≡ Ok (index_of g)
 unfolding build_index
 index_builds {g} P =
-    pass (build_tests g (index_numbers g)) (λ k l. passed_lengths P also eq-eqb (index_numbers g) (index_numbers g) refl, passed_tests P) (yields (index_of g))
+    pass (build_tests g (index_numbers g)) (λ k l. passed_lengths P also eq-eqb (index_numbers g) (index_numbers g) refl, passed_tests P) (Ok (index_of g))
 
 -- ---- a list that is not the index
 
@@ -90,17 +90,17 @@ module _ (g : Graph) (other : List ℕ) (s : Sound (shape_of g) g.row g.column) 
   same_at k = eqb (get_or other k 0) (get_or (index_of g) k 0)
 
   -- Its test refuses it, at the first position that differs.
-  refused_first : (k : ℕ) × Lowest (index_numbers g) same_at k × (passing (index_test g other ∷ []) (yields (tt {0})) ≡ refuses WrongIndex (suc k))
+  refused_first : (k : ℕ) × Lowest (index_numbers g) same_at k × (passing (index_test g other ∷ []) (Ok (tt {0})) ≡ refuses WrongIndex (suc k))
   refused_first = go (lowest (index_numbers g) same_at) refl
     where
       go : (o : Option ℕ) → lowest (index_numbers g) same_at ≡ o →
-          (k : ℕ) × Lowest (index_numbers g) same_at k × (passing (index_test g other ∷ []) (yields (tt {0})) ≡ refuses WrongIndex (suc k))
-      go none e = absurd (ne (index_given g other s long (lowest-none (index_numbers g) same_at e, tt)))
-      go (some k) e = (k, lowest-some (index_numbers g) same_at k e, passing-found (index_test g other) [] (yields tt) k e)
+          (k : ℕ) × Lowest (index_numbers g) same_at k × (passing (index_test g other ∷ []) (Ok (tt {0})) ≡ refuses WrongIndex (suc k))
+      go None e = absurd (ne (index_given g other s long (lowest-none (index_numbers g) same_at e, tt)))
+      go (Some k) e = (k, lowest-some (index_numbers g) same_at k e, passing-found (index_test g other) [] (Ok tt) k e)
 
   -- So does a call of whose tests no other is left.
   differs : {index : List ℕ} {W : Outcome (Unit {0})} → index ≡ index_of g → length other ≡ length index →
-      W ≡ passing (index_test g other ∷ []) (yields tt) → RefusedWhereUnlike W index other
+      W ≡ passing (index_test g other ∷ []) (Ok tt) → RefusedWhereUnlike W index other
   differs {index} is same left =
       let r = refused_first in
       let k = r.0 in
@@ -113,26 +113,26 @@ module _ (g : Graph) (other : List ℕ) (s : Sound (shape_of g) g.row g.column) 
         refused = ap told (left ∙ r.2);
       }
 
-pub tester_refuses : (g : Graph) (index other : List ℕ) → test_index g index ≡ yields tt → length other ≡ length index → other ≢ index →
+pub tester_refuses : (g : Graph) (index other : List ℕ) → test_index g index ≡ Ok tt → length other ≡ length index → other ≢ index →
     RefusedWhereUnlike (test_index g other) index other
 unfolding test_index
 tester_refuses g index other e same ne =
     let I = index_tested g index e in
     let long : length other ≡ index_numbers g = same ∙ I.lent in
     differs g other I.passed.sound long (λ h. ne (h ∙ sym I.is)) I.is same
-    (once-passes LentLength (graph_lengths g && eqb (length other) (index_numbers g)) (graph_tests g ++ (index_test g other ∷ [])) (yields tt)
+    (once-passes LentLength (graph_lengths g && eqb (length other) (index_numbers g)) (graph_tests g ++ (index_test g other ∷ [])) (Ok tt)
     (I.lengths also eq-eqb (length other) (index_numbers g) long)
-    ∙ passing-append (graph_tests g) (index_test g other ∷ []) (yields tt)
-    ∙ pass (graph_tests g) I.tests (passing (index_test g other ∷ []) (yields tt)))
+    ∙ passing-append (graph_tests g) (index_test g other ∷ []) (Ok tt)
+    ∙ pass (graph_tests g) I.tests (passing (index_test g other ∷ []) (Ok tt)))
 
-module _ (g : Graph) (bound : List ℤ) (index : List ℕ) (lent : Lent) (e : solve g bound index lent ≡ yields tt) where
+module _ (g : Graph) (bound : List ℤ) (index : List ℕ) (lent : Lent) (e : solve g bound index lent ≡ Ok tt) where
   taken-index : index ≡ index_of g
   taken-index = let p = solve-passed g bound index lent e in index_given g index p.passed.sound p.index_long p.index_passes
 
-  pub taken-built : build_index g (length index) ≡ yields index
+  pub taken-built : build_index g (length index) ≡ Ok index
   taken-built =
       let p = solve-passed g bound index lent e in
-      ap (build_index g) p.index_long ∙ index_builds p.passed ∙ ap (λ (xs : List ℕ). yields xs) (sym taken-index)
+      ap (build_index g) p.index_long ∙ index_builds p.passed ∙ ap (λ (xs : List ℕ). Ok xs) (sym taken-index)
 
   pub solver_refuses_other : (other : List ℕ) → length other ≡ length index → other ≢ index → RefusedWhereUnlike (solve g bound other lent) index other
   solver_refuses_other other same ne =

@@ -1,4 +1,5 @@
 -- The promises of request U8 are kept.
+use Rattle.std.specs.Prelude.{Ok}
 use Prim.Native.Nat.{ℕ, ◌+◌, ◌<◌}
 use mathlib.Core.Path.{◌≡◌, refl, sym, ap, ap₂, ◌∙◌, subst}
 use mathlib.Core.Bool.{Bool, true}
@@ -10,7 +11,6 @@ use lib.ListN.{length, get_or, take, drop, take-append-drop}
 use Rattle.integers.proofs.Order.{order, ≤ℤ-antisym, le-between}
 use Rattle.graph.specs.declared.Fault.TheVariants.{NotDoubled}
 use Rattle.graph.specs.Limits.{longest_text}
-use Rattle.graph.specs.Refusal.{yields}
 use Rattle.graph.specs.Graph.{Graph, vertices, price_in_range}
 use Rattle.graph.specs.Subgraph.{Feasible}
 use Rattle.graph.specs.Doubled.{doubled}
@@ -137,15 +137,15 @@ module _ (sheet limits : List ℕ) (P : Problem) (e : problem_in sheet limits �
       tank_written : price_output sheet limits prices ≡ number_text prices
       tank_written = prices_written prices (has tt) tank_taken
 
-      tank_reads : read_numbers Numbers.Prices (vertices tank + tank.edges) (vertices tank + tank.edges) (price_output sheet limits prices) ≡ yields prices
+      tank_reads : read_numbers Numbers.Prices (vertices tank + tank.edges) (vertices tank + tank.edges) (price_output sheet limits prices) ≡ Ok prices
       tank_reads =
           let D = tank_doublable in
           ap₂ (λ (n : ℕ) (text : List ℕ). read_numbers Numbers.Prices n n text) (sym tank_long) tank_written
           ∙ numbers_back Numbers.Prices prices (omega (arith, tank_long, general-vertices D, D.passed.sound.sizes.rows.least))
           (omega (arith, tank_long, general-vertices D, D.few, D.few_edges)) tank_range
 
-      tank_marked : (plan x : List ℕ) → read_subgraph tank tank.edges plan ≡ yields x → Feasible tank P.bound x →
-          (M : Measures) × (measure tank P.bound x (prices_from tank prices) ≡ yields M) × Meaning tank P.bound x (prices_from tank prices) M
+      tank_marked : (plan x : List ℕ) → read_subgraph tank tank.edges plan ≡ Ok x → Feasible tank P.bound x →
+          (M : Measures) × (measure tank P.bound x (prices_from tank prices) ≡ Ok M) × Meaning tank P.bound x (prices_from tank prices) M
           × (mark_output sheet limits plan (price_output sheet limits prices) ≡ measured_line M)
       tank_marked plan x read F =
           mark-writes sheet limits plan (price_output sheet limits prices) P x prices (record { problem_read = e; plan_read = read; prices_read = tank_reads }) F

@@ -1,4 +1,5 @@
 -- The promises of request U3 are kept.
+use Rattle.std.specs.Prelude.{Ok}
 use Prim.Native.Nat.{ℕ}
 use mathlib.Core.Path.{◌≡◌, refl, sym, ap, ◌∙◌, subst}
 use mathlib.Core.List.{List}
@@ -6,7 +7,7 @@ use native.Mathlib.Omega.{arith}
 use lib.Dec.{eqb}
 use borrow.Author.Tests.{eqb-true, eq-eqb}
 use Rattle.graph.specs.Limits.{most_edges, longest_text}
-use Rattle.graph.specs.Refusal.{Outcome, yields}
+use Rattle.graph.specs.Refusal.{Outcome}
 use Rattle.graph.specs.Graph.{Graph}
 use Rattle.graph.specs.Tests.{graph_lengths}
 use Rattle.graph.specs.Passed.{Passed}
@@ -34,17 +35,17 @@ pub sheet-passed : (sheet : List ℕ) (g : Graph) → ReadAs sheet g → Passed 
 sheet-passed sheet g e = text_passes New Field.Integer sheet g ((graph-read New Field.Integer sheet g).0 e).1
 
 -- The call yields the tidy text of a graph that has passed, where its output has 32,768 bytes, and else nothing.
-pub passed_tidied : {g : Graph} → Passed g → tidy_graph g longest_text ≡ yields (tidy_text g)
+pub passed_tidied : {g : Graph} → Passed g → tidy_graph g longest_text ≡ Ok (tidy_text g)
 unfolding tidy_graph
 passed_tidied {g} P =
-    pass (tidy_tests g longest_text) (λ k l. passed_lengths P also eq-eqb longest_text longest_text refl, passed_tests P) (yields (tidy_text g))
+    pass (tidy_tests g longest_text) (λ k l. passed_lengths P also eq-eqb longest_text longest_text refl, passed_tests P) (Ok (tidy_text g))
 
-tidied-call : (g : Graph) (n : ℕ) (text : List ℕ) → tidy_graph g n ≡ yields text → Passed g × (n ≡ longest_text) × (tidy_text g ≡ text)
+tidied-call : (g : Graph) (n : ℕ) (text : List ℕ) → tidy_graph g n ≡ Ok text → Passed g × (n ≡ longest_text) × (tidy_text g ≡ text)
 unfolding tidy_graph
 tidied-call g n text e =
-    let p = passes (tidy_tests g n) (yields (tidy_text g)) text e in
+    let p = passes (tidy_tests g n) (Ok (tidy_text g)) text e in
     let lengths = both (graph_lengths g) (eqb n longest_text) (p.0.0 0 (omega arith)) in
-    let q : ◌≡◌ {A = Outcome (List ℕ)} (yields (tidy_text g)) (yields text) = p.1 in
+    let q : ◌≡◌ {A = Outcome (List ℕ)} (Ok (tidy_text g)) (Ok text) = p.1 in
     (graph_passed g lengths.0 p.0.1, eqb-true n longest_text lengths.1, cc)
 
 tidied-program : (sheet : List ℕ) (g : Graph) → ReadAs sheet g → tidy_output sheet ≡ tidy_text g
@@ -58,8 +59,8 @@ tidy_back : {g : Graph} → Passed g → ReadAs (tidy_text g) (tidied g)
 tidy_back P = graph_back (tidied-passed P)
 
 -- What a call yields is one result.
-pub yields_once : {A : Type 0} {o : Outcome A} {a b : A} → o ≡ yields a → o ≡ yields b → a ≡ b
-yields_once {A} {a = a} {b = b} e f = let q : ◌≡◌ {A = Outcome A} (yields a) (yields b) = sym e ∙ f in cc
+pub yields_once : {A : Type 0} {o : Outcome A} {a b : A} → o ≡ Ok a → o ≡ Ok b → a ≡ b
+yields_once {A} {a = a} {b = b} e f = let q : ◌≡◌ {A = Outcome A} (Ok a) (Ok b) = sym e ∙ f in cc
 
 -- ---- the promises
 
@@ -101,7 +102,7 @@ tidy-kept = record {
       ap (λ (k : Graph). tidy_graph k n) (sym same)
       ∙ ap (tidy_graph (tidied g)) t.1
       ∙ passed_tidied (tidied-passed t.0)
-      ∙ ap yields (again t.0 ∙ t.2);
+      ∙ ap Ok (again t.0 ∙ t.2);
   program = λ sheet g e.
       let P = sheet-passed sheet g e in
       ap tidy_output (tidied-program sheet g e) ∙ tidied-program (tidy_text g) (tidied g) (tidy_back P) ∙ again P ∙ sym (tidied-program sheet g e);

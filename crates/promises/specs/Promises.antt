@@ -1,8 +1,7 @@
 -- The promises: each sentence of the three demands, of the two programs and of the requests, as a statement over what the calls yield and leave, in their
 -- order. What a call's contract says, that its answer and all that is lent to it are what these definitions yield, is proved of its code, and so is that
 -- it touches memory only within what is lent, and ends.
-use Rattle.std.specs.Prelude.{ℕ, suc, ◌+◌, ◌*◌, ◌-◌, ◌≤◌, ◌<◌, ◌≡◌, ◌≢◌, ◌⊎◌, ◌↔◌, true, List, [], ◌∷◌, ◌++◌, map, ℤ, pos, ◌-ℤ◌, ◌*ℤ◌, length, get_or, replicate, take, drop, ◌≤ℤ◌}
-use Rattle.std.proofs.Math.Option.{some}
+use Rattle.std.specs.Prelude.{ℕ, suc, ◌+◌, ◌*◌, ◌-◌, ◌≤◌, ◌<◌, ◌≡◌, ◌≢◌, ◌⊎◌, ◌↔◌, true, List, [], ◌∷◌, ◌++◌, map, ℤ, pos, ◌-ℤ◌, ◌*ℤ◌, length, get_or, replicate, take, drop, ◌≤ℤ◌, Some, Ok}
 use Rattle.std.specs.Int.Signed.{le_z}
 use Rattle.integers.specs.Sum.{sum, sumℤ, is}
 use Rattle.graph.specs.declared.Kind.TheVariants.{Bipartite, General}
@@ -10,7 +9,7 @@ use Rattle.graph.specs.declared.Fault.{Fault}
 use Rattle.graph.specs.declared.Fault.TheVariants.{LentLength, NotBipartite, NotDoubled}
 use Rattle.graph.specs.Limits.{most_side, most_vertices, most_edges, most_doubled_edges, most_numbers, most_sets, vertex_words, edge_words, longest_text, subgraph_bytes}
 use Rattle.graph.specs.Limits.{greatest_solver_price, greatest_old_price}
-use Rattle.graph.specs.Refusal.{number_of, Outcome, yields, told, refused_with, Test, once, passing, filled, output}
+use Rattle.graph.specs.Refusal.{number_of, Outcome, told, refused_with, Test, once, passing, filled, output}
 use Rattle.graph.specs.Graph.{Graph, vertices, first_end, second_end, weight_at, bound_at, up_to, price_in_range}
 use Rattle.graph.specs.Subgraph.{mark_at, ends_at, Feasible, Optimal, weight_of, lacks}
 use Rattle.graph.specs.Tests.{graph_lengths, graph_tests, bound_test}
@@ -89,10 +88,10 @@ pub record ZeroAfterRefusal : Type 0 where
 -- The tests ts pass, or the first that refuses does so with this number at this place: each is made over all items before the next, and the lowest
 -- place is told.
 abbrev pub Passing : List Test → Type 0
-Passing ts = passing ts (yields tt) ≡ yields (tt {0})
+Passing ts = passing ts (Ok tt) ≡ Ok (tt {0})
 
 abbrev pub Refusing : List Test → ℕ → ℕ → Type 0
-Refusing ts number place = Refuses (passing ts (yields (tt {0}))) number place
+Refusing ts number place = Refuses (passing ts (Ok (tt {0}))) number place
 
 -- "Texts are read as the Matrix Market layout defines": where what is lent is as long as it should be, and a text is not too long, it is read line by
 -- line from the top, as its layout says. So is an assignment text (request U7).
@@ -106,14 +105,14 @@ pub record ReadAsDefined : Type 0 where
 
 -- "A written plan reads back as the same plan": what the writer yields reads back as the marks that were written, so no two subgraphs are written alike.
 pub record ReadsBack : Type 0 where
-  pub back : (g : Graph) (x : List ℕ) (n : ℕ) (text : List ℕ) → write_subgraph g x n ≡ yields text → read_subgraph g (length x) text ≡ yields x
-  pub apart : (g : Graph) (x y : List ℕ) (n k : ℕ) (text : List ℕ) → write_subgraph g x n ≡ yields text → write_subgraph g y k ≡ yields text → x ≡ y
+  pub back : (g : Graph) (x : List ℕ) (n : ℕ) (text : List ℕ) → write_subgraph g x n ≡ Ok text → read_subgraph g (length x) text ≡ Ok x
+  pub apart : (g : Graph) (x y : List ℕ) (n k : ℕ) (text : List ℕ) → write_subgraph g x n ≡ Ok text → write_subgraph g y k ≡ Ok text → x ≡ y
 
 -- "The solver's plan is within the limits and of largest merit."
 abbrev pub LargestMerit : Type 0
 LargestMerit =
     (g : Graph) (bound : List ℤ) (index : List ℕ) (lent : Lent) (S : Outputs) (workspace : List ℤ) → Left g bound index lent S workspace →
-    solve g bound index lent ≡ yields tt → Feasible g bound S.chosen × ((y : List ℕ) → Feasible g bound y → weight_of g y ≤ℤ weight_of g S.chosen)
+    solve g bound index lent ≡ Ok tt → Feasible g bound S.chosen × ((y : List ℕ) → Feasible g bound y → weight_of g y ≤ℤ weight_of g S.chosen)
 
 -- "Refusals come in the listed situations and in no others": a call refuses with a number at a place just where its tests do, and a reader also where
 -- the lines do.
@@ -144,13 +143,13 @@ pub record Certifies (g : Graph) (bound : List ℤ) (S : Outputs) : Type 0 where
   pub edge_range : (e : ℕ) → e < g.edges → SolverPrice (edge_price (solver_prices S) e)
   pub covering : (e : ℕ) → e < g.edges → worth_at g e ≤ℤ cover_of g (solver_prices S) e
   pub exact : (y : List ℕ) → Feasible g bound y →
-      (M : Measures) × (measure g bound y (solver_prices S) ≡ yields M) × ((M.gap ≡ pos 0) ↔ (weight_of g y ≡ weight_of g S.chosen))
+      (M : Measures) × (measure g bound y (solver_prices S) ≡ Ok M) × ((M.gap ≡ pos 0) ↔ (weight_of g y ≡ weight_of g S.chosen))
 
 -- "The solver's prices are in range and cover every pair, and a plan within the limits has the solver's merit exactly when its measured gap is 0."
 abbrev pub SolverCertifies : Type 0
 SolverCertifies =
     (g : Graph) (bound : List ℤ) (index : List ℕ) (lent : Lent) (S : Outputs) (workspace : List ℤ) → Left g bound index lent S workspace →
-    solve g bound index lent ≡ yields tt → Certifies g bound S
+    solve g bound index lent ≡ Ok tt → Certifies g bound S
 
 -- A graph with its bounds passes: its lengths, its numbers and the bounds'.
 pub record Accepts (g : Graph) (bound : List ℤ) : Type 0 where
@@ -177,7 +176,7 @@ pub record Covers (g : Graph) (bound : List ℤ) (P : Prices) : Type 0 where
 abbrev pub MeasuredMeans : Type 0
 MeasuredMeans =
     (g : Graph) (bound : List ℤ) (x : List ℕ) (P : Prices) → Accepts g bound → Feasible g bound x → Covers g bound P →
-    (M : Measures) × (measure g bound x P ≡ yields M) × Meaning g bound x P M
+    (M : Measures) × (measure g bound x P ≡ Ok M) × Meaning g bound x P M
 
 -- What a plan lacks is a number: every graph and bounds that pass have an optimal subgraph, and any two of them weigh the same.
 pub record OptimumExists : Type 0 where
@@ -190,7 +189,7 @@ pub record OptimumExists : Type 0 where
 pub record WritesBest (g : Graph) (bound : List ℤ) (plan text : List ℕ) : Type 0 where
   pub best : Optimal g bound plan
   pub written : text ≡ subgraph_text g plan
-  pub reads : read_subgraph g g.edges text ≡ yields plan
+  pub reads : read_subgraph g g.edges text ≡ Ok plan
 
 -- What is left of a buffer of 16,384 bytes is such a text and then 0, and r is the text's length.
 pub record LeavesBest (g : Graph) (bound : List ℤ) (after : List ℕ) (r : ℕ) : Type 0 where
@@ -218,8 +217,8 @@ pub record SolveWrites : Type 0 where
 -- What `mark` reads of the four texts: a graph with its bounds, a plan x, and the prices zs, those of the vertices first.
 pub record MarkReads (sheet limits plan prices : List ℕ) (P : Problem) (x : List ℕ) (zs : List ℤ) : Type 0 where
   pub problem_read : problem_in sheet limits ≡ has P
-  pub plan_read : read_subgraph P.graph P.graph.edges plan ≡ yields x
-  pub prices_read : read_numbers Numbers.Prices (vertices P.graph + P.graph.edges) (vertices P.graph + P.graph.edges) prices ≡ yields zs
+  pub plan_read : read_subgraph P.graph P.graph.edges plan ≡ Ok x
+  pub prices_read : read_numbers Numbers.Prices (vertices P.graph + P.graph.edges) (vertices P.graph + P.graph.edges) prices ≡ Ok zs
 
 -- "`mark` also reads plan.mtx and prices.mtx, takes no groups, and writes one line": where the plan is valid and the prices cover every pair, the line of
 -- its merit, the total, the leftovers and the gap, as they are defined.
@@ -228,7 +227,7 @@ MarkWrites =
     (sheet limits plan prices : List ℕ) (P : Problem) (x : List ℕ) (zs : List ℤ) → MarkReads sheet limits plan prices P x zs →
     Feasible P.graph P.bound x →
     ((e : ℕ) → e < P.graph.edges → worth_at P.graph e ≤ℤ cover_of P.graph (prices_from P.graph zs) e) →
-    (M : Measures) × (measure P.graph P.bound x (prices_from P.graph zs) ≡ yields M)
+    (M : Measures) × (measure P.graph P.bound x (prices_from P.graph zs) ≡ Ok M)
     × Meaning P.graph P.bound x (prices_from P.graph zs) M × (mark_output sheet limits plan prices ≡ measured_line M)
 
 -- ---- Request U1
@@ -255,7 +254,7 @@ pub record LaidOut (g : Graph) (index : List ℕ) : Type 0 where
 -- "n + 1 offsets, then 2m pair numbers, grouped by fish, rising within a fish. Offset i counts the pair numbers of fish before fish i; the last is 2m":
 -- so is an index that passes.
 abbrev pub IndexLaidOut : Type 0
-IndexLaidOut = (g : Graph) (index : List ℕ) → test_index g index ≡ yields tt → LaidOut g index
+IndexLaidOut = (g : Graph) (index : List ℕ) → test_index g index ≡ Ok tt → LaidOut g index
 
 -- The index lists each edge twice, once under each end, and under no other vertex.
 pub record ListsEdges (g : Graph) (index : List ℕ) : Type 0 where
@@ -266,7 +265,7 @@ pub record ListsEdges (g : Graph) (index : List ℕ) : Type 0 where
 
 -- "An index that passes lists each pair exactly twice, once under each end."
 abbrev pub IndexListsEdges : Type 0
-IndexListsEdges = (g : Graph) (index : List ℕ) → test_index g index ≡ yields tt → ListsEdges g index
+IndexListsEdges = (g : Graph) (index : List ℕ) → test_index g index ≡ Ok tt → ListsEdges g index
 
 -- A call refuses a lent index with 18, at the first position where it differs from the one that is right. Positions count from 1.
 pub record RefusedWhereUnlike (W : Outcome (Unit {0})) (index other : List ℕ) : Type 0 where
@@ -279,39 +278,39 @@ pub record RefusedWhereUnlike (W : Outcome (Unit {0})) (index other : List ℕ) 
 -- "18, the lent index is not the sheet's, place the first position that differs": just one list is a graph's index, the one that is built. It passes, and
 -- no other does, by the call that tests one and by the solver; where one index is taken, any other of its length is refused so.
 pub record OneIndex : Type 0 where
-  pub passes : (g : Graph) (n : ℕ) (index : List ℕ) → build_index g n ≡ yields index → test_index g index ≡ yields tt
-  pub only : (g : Graph) (index : List ℕ) → test_index g index ≡ yields tt → build_index g (length index) ≡ yields index
-  pub other : (g : Graph) (index other : List ℕ) → test_index g index ≡ yields tt → length other ≡ length index → other ≢ index →
+  pub passes : (g : Graph) (n : ℕ) (index : List ℕ) → build_index g n ≡ Ok index → test_index g index ≡ Ok tt
+  pub only : (g : Graph) (index : List ℕ) → test_index g index ≡ Ok tt → build_index g (length index) ≡ Ok index
+  pub other : (g : Graph) (index other : List ℕ) → test_index g index ≡ Ok tt → length other ≡ length index → other ≢ index →
       RefusedWhereUnlike (test_index g other) index other
-  pub solver_only : (g : Graph) (bound : List ℤ) (index : List ℕ) (lent : Lent) → solve g bound index lent ≡ yields tt →
-      build_index g (length index) ≡ yields index
-  pub solver_other : (g : Graph) (bound : List ℤ) (index other : List ℕ) (lent : Lent) → solve g bound index lent ≡ yields tt →
+  pub solver_only : (g : Graph) (bound : List ℤ) (index : List ℕ) (lent : Lent) → solve g bound index lent ≡ Ok tt →
+      build_index g (length index) ≡ Ok index
+  pub solver_other : (g : Graph) (bound : List ℤ) (index other : List ℕ) (lent : Lent) → solve g bound index lent ≡ Ok tt →
       length other ≡ length index → other ≢ index → RefusedWhereUnlike (solve g bound other lent) index other
 
 -- ---- Request U2
 
 -- "One way to write a number": two words that are read as the same number are the same, and it is what the writer writes.
 pub record OneWay : Type 0 where
-  pub size : (u v : List ℕ) (n : ℕ) → natural New u ≡ some n → natural New v ≡ some n → u ≡ v
-  pub number : (u v : List ℕ) (z : ℤ) → integer New u ≡ some z → integer New v ≡ some z → u ≡ v
-  pub written : (w : List ℕ) (z : ℤ) → integer New w ≡ some z → w ≡ signed z
+  pub size : (u v : List ℕ) (n : ℕ) → natural New u ≡ Some n → natural New v ≡ Some n → u ≡ v
+  pub number : (u v : List ℕ) (z : ℤ) → integer New u ≡ Some z → integer New v ≡ Some z → u ≡ v
+  pub written : (w : List ℕ) (z : ℤ) → integer New w ≡ Some z → w ≡ signed z
 
 -- "A program first rewrites the numbers .. of old.mtx": what the old rules take as a sheet, as limits or prices of a count, or as a plan of a sheet, the
 -- new ones take after rewriting, with the same result.
 pub record OldTextsRewritten : Type 0 where
-  pub graph : (text : List ℕ) (g : Graph) → read_graph_by Old Field.Integer most_edges most_edges most_edges text ≡ yields g →
-      read_graph most_edges most_edges most_edges (rewrite_output text) ≡ yields g
-  pub numbers : (what : Numbers) (count : ℕ) (text : List ℕ) (zs : List ℤ) → read_numbers_by Old what count count text ≡ yields zs →
-      read_numbers what count count (rewrite_output text) ≡ yields zs
-  pub subgraph : (g : Graph) (text x : List ℕ) → read_subgraph_by Old g g.edges text ≡ yields x → read_subgraph g g.edges (rewrite_output text) ≡ yields x
+  pub graph : (text : List ℕ) (g : Graph) → read_graph_by Old Field.Integer most_edges most_edges most_edges text ≡ Ok g →
+      read_graph most_edges most_edges most_edges (rewrite_output text) ≡ Ok g
+  pub numbers : (what : Numbers) (count : ℕ) (text : List ℕ) (zs : List ℤ) → read_numbers_by Old what count count text ≡ Ok zs →
+      read_numbers what count count (rewrite_output text) ≡ Ok zs
+  pub subgraph : (g : Graph) (text x : List ℕ) → read_subgraph_by Old g g.edges text ≡ Ok x → read_subgraph g g.edges (rewrite_output text) ≡ Ok x
 
 -- What the new rules take is rewritten to itself; prices where none is over 2,000,000, since the old rules, by which a text is rewritten, take no more.
 pub record NewTextsKept : Type 0 where
-  pub graph : (text : List ℕ) (g : Graph) → read_graph most_edges most_edges most_edges text ≡ yields g → rewrite_output text ≡ text
-  pub bounds : (count : ℕ) (text : List ℕ) (zs : List ℤ) → read_numbers Numbers.Bounds count count text ≡ yields zs → rewrite_output text ≡ text
-  pub prices : (count : ℕ) (text : List ℕ) (zs : List ℤ) → read_numbers Numbers.Prices count count text ≡ yields zs →
+  pub graph : (text : List ℕ) (g : Graph) → read_graph most_edges most_edges most_edges text ≡ Ok g → rewrite_output text ≡ text
+  pub bounds : (count : ℕ) (text : List ℕ) (zs : List ℤ) → read_numbers Numbers.Bounds count count text ≡ Ok zs → rewrite_output text ≡ text
+  pub prices : (count : ℕ) (text : List ℕ) (zs : List ℤ) → read_numbers Numbers.Prices count count text ≡ Ok zs →
       ((k : ℕ) → k < length zs → get_or zs k (pos 0) ≤ℤ pos greatest_old_price) → rewrite_output text ≡ text
-  pub subgraph : (g : Graph) (text x : List ℕ) → read_subgraph g g.edges text ≡ yields x → rewrite_output text ≡ text
+  pub subgraph : (g : Graph) (text x : List ℕ) → read_subgraph g g.edges text ≡ Ok x → rewrite_output text ≡ text
 
 -- "And copies all other bytes": a text anew has the text's lines, of which those before the size line are the same, and each of the others has its words
 -- anew; the bytes that end lines, and the blanks between words, are the same.
@@ -323,9 +322,9 @@ pub record CopiesTheRest : Type 0 where
 
 -- The old rules refuse a text as a sheet, as a plan of every sheet, and as limits and as prices of every count.
 pub record RefusedByAll (text : List ℕ) : Type 0 where
-  pub graph : (g : Graph) → read_graph_by Old Field.Integer most_edges most_edges most_edges text ≢ yields g
-  pub subgraph : (g : Graph) (x : List ℕ) → read_subgraph_by Old g g.edges text ≢ yields x
-  pub numbers : (what : Numbers) (count : ℕ) (zs : List ℤ) → read_numbers_by Old what count count text ≢ yields zs
+  pub graph : (g : Graph) → read_graph_by Old Field.Integer most_edges most_edges most_edges text ≢ Ok g
+  pub subgraph : (g : Graph) (x : List ℕ) → read_subgraph_by Old g g.edges text ≢ Ok x
+  pub numbers : (what : Numbers) (count : ℕ) (zs : List ℤ) → read_numbers_by Old what count count text ≢ Ok zs
 
 -- "Or writes only the line `cannot read`": just where they do.
 abbrev pub CannotRead : Type 0
@@ -335,19 +334,19 @@ CannotRead = (text : List ℕ) → (rewrite_output text ≡ unlines (bytes "cann
 abbrev pub PlanOfSomeSheet : Type 0
 PlanOfSomeSheet =
     (rules : Rules) (text : List ℕ) →
-    ((g : Graph) × (x : List ℕ) × (read_subgraph_by rules g g.edges text ≡ yields x)) ↔
-    ((p : Graph) × (read_graph_by rules Field.Pattern most_edges most_edges most_edges text ≡ yields p))
+    ((g : Graph) × (x : List ℕ) × (read_subgraph_by rules g g.edges text ≡ Ok x)) ↔
+    ((p : Graph) × (read_graph_by rules Field.Pattern most_edges most_edges most_edges text ≡ Ok p))
 
 -- A sheet that is read passes the tests that every call makes of a graph.
 abbrev pub ReadSheetsPass : Type 0
 ReadSheetsPass =
-    (text : List ℕ) (g : Graph) → read_graph most_edges most_edges most_edges text ≡ yields g → Passing (once LentLength (graph_lengths g) ∷ graph_tests g)
+    (text : List ℕ) (g : Graph) → read_graph most_edges most_edges most_edges text ≡ Ok g → Passing (once LentLength (graph_lengths g) ∷ graph_tests g)
 
 -- ---- Request U3
 
 -- A text is accepted as a sheet, which it yields.
 abbrev pub ReadAs : List ℕ → Graph → Type 0
-ReadAs text g = read_graph most_edges most_edges most_edges text ≡ yields g
+ReadAs text g = read_graph most_edges most_edges most_edges text ≡ Ok g
 
 -- A text is a tidy form of a graph: it is read as the same sheet, its pairs by rising row and then column, and is what this is written as.
 pub record TidyFormOf (g : Graph) (text : List ℕ) : Type 0 where
@@ -360,13 +359,13 @@ pub record TidyFormOf (g : Graph) (text : List ℕ) : Type 0 where
 -- "A writer that puts any accepted sheet into its single tidy form": whatever the call yields is a tidy form of the graph, so is what `tidy` writes of any
 -- accepted sheet, and no other text is one.
 pub record AnySheetTidied : Type 0 where
-  pub call : (g : Graph) (n : ℕ) (text : List ℕ) → tidy_graph g n ≡ yields text → TidyFormOf g text
+  pub call : (g : Graph) (n : ℕ) (text : List ℕ) → tidy_graph g n ≡ Ok text → TidyFormOf g text
   pub program : (sheet : List ℕ) (g : Graph) → ReadAs sheet g → TidyFormOf g (tidy_output sheet)
   pub single : (g : Graph) (text other : List ℕ) → TidyFormOf g text → TidyFormOf g other → text ≡ other
 
 -- "Tidying a tidy text changes nothing."
 pub record TidyKept : Type 0 where
-  pub call : (g h : Graph) (n : ℕ) (text : List ℕ) → tidy_graph g n ≡ yields text → ReadAs text h → tidy_graph h n ≡ yields text
+  pub call : (g h : Graph) (n : ℕ) (text : List ℕ) → tidy_graph g n ≡ Ok text → ReadAs text h → tidy_graph h n ≡ Ok text
   pub program : (sheet : List ℕ) (g : Graph) → ReadAs sheet g → tidy_output (tidy_output sheet) ≡ tidy_output sheet
 
 -- "Two accepted texts tidy to the same bytes exactly when they have the same kind, sizes and pairs of ends, and the same merit at each."
@@ -384,9 +383,9 @@ PlansKept =
 -- "A pair is covered if its prices reach twice its merit", "gap = total - 2 times merit": so it is where the measuring call yields its numbers, of which the
 -- weight is in points.
 pub record CountedInHalfPoints : Type 0 where
-  pub reached : (g : Graph) (bound : List ℤ) (x : List ℕ) (P : Prices) (M : Measures) → measure g bound x P ≡ yields M →
+  pub reached : (g : Graph) (bound : List ℤ) (x : List ℕ) (P : Prices) (M : Measures) → measure g bound x P ≡ Ok M →
       (e : ℕ) → e < g.edges → (pos 2 *ℤ weight_at g e) ≤ℤ cover_of g P e
-  pub gap : (g : Graph) (bound : List ℤ) (x : List ℕ) (P : Prices) (M : Measures) → measure g bound x P ≡ yields M →
+  pub gap : (g : Graph) (bound : List ℤ) (x : List ℕ) (P : Prices) (M : Measures) → measure g bound x P ≡ Ok M →
       (M.weight ≡ weight_of g x) × (M.gap ≡ M.total -ℤ pos 2 *ℤ M.weight)
 
 -- "The solver's prices are even, 0 to 2,000,000": a price z is twice a natural number, and not over 2,000,000.
@@ -396,19 +395,19 @@ EvenPrice z = (k : ℕ) × (z ≡ pos (2 * k)) × (2 * k ≤ greatest_solver_pri
 abbrev pub SolverPricesEven : Type 0
 SolverPricesEven =
     (g : Graph) (bound : List ℤ) (index : List ℕ) (lent : Lent) (S : Outputs) (workspace : List ℤ) → Left g bound index lent S workspace →
-    solve g bound index lent ≡ yields tt →
+    solve g bound index lent ≡ Ok tt →
     ((v : ℕ) → v < vertices g → EvenPrice (get_or S.vertex_prices v (pos 0))) × ((e : ℕ) → e < g.edges → EvenPrice (get_or S.edge_prices e (pos 0)))
 
 -- "The gap sentence of the mission now compares with twice what the plan lacks": the gap is at least that, so that a gap of 0 or 1 shows a plan best, and
 -- against the solver's prices it is just that.
 pub record TwiceWhatIsLacking : Type 0 where
-  pub least : (g : Graph) (bound : List ℤ) (x : List ℕ) (P : Prices) (M : Measures) → measure g bound x P ≡ yields M →
+  pub least : (g : Graph) (bound : List ℤ) (x : List ℕ) (P : Prices) (M : Measures) → measure g bound x P ≡ Ok M →
       (y : List ℕ) → Optimal g bound y → (pos 2 *ℤ lacks g y x) ≤ℤ M.gap
-  pub best : (g : Graph) (bound : List ℤ) (x : List ℕ) (P : Prices) (M : Measures) → measure g bound x P ≡ yields M →
+  pub best : (g : Graph) (bound : List ℤ) (x : List ℕ) (P : Prices) (M : Measures) → measure g bound x P ≡ Ok M →
       M.gap ≤ℤ pos 1 → Optimal g bound x
   pub exact : (g : Graph) (bound : List ℤ) (index : List ℕ) (lent : Lent) (S : Outputs) (workspace : List ℤ) → Left g bound index lent S workspace →
-      solve g bound index lent ≡ yields tt → (y : List ℕ) → Feasible g bound y →
-      (M : Measures) × (measure g bound y (solver_prices S) ≡ yields M) × (M.gap ≡ pos 2 *ℤ lacks g S.chosen y)
+      solve g bound index lent ≡ Ok tt → (y : List ℕ) → Feasible g bound y →
+      (M : Measures) × (measure g bound y (solver_prices S) ≡ Ok M) × (M.gap ≡ pos 2 *ℤ lacks g S.chosen y)
 
 -- A stored price sheet, whose prices are in points, in half points: each price doubled.
 abbrev pub in_half_points : Prices → Prices
@@ -437,10 +436,10 @@ pub record StoredPricesDoubled : Type 0 where
 
 -- A graph with its bounds goes out as a text, the output having n bytes; and a text that comes in yields a graph, whose bounds are then `unit_bounds`.
 abbrev pub GoesOutAs : Graph → List ℤ → List ℕ → Type 0
-GoesOutAs g bound text = (n : ℕ) × (write_assignment g bound n ≡ yields text)
+GoesOutAs g bound text = (n : ℕ) × (write_assignment g bound n ≡ Ok text)
 
 abbrev pub ComesInAs : List ℕ → Graph → Type 0
-ComesInAs text g = read_assignment most_edges most_edges most_edges most_vertices text ≡ yields g
+ComesInAs text g = read_assignment most_edges most_edges most_edges most_vertices text ≡ Ok g
 
 -- "A sheet converted and brought back has the same kind, sizes and pairs in the same order": a graph that goes out comes back as the same graph, with the
 -- bounds that it went out with. So no two are written alike.
@@ -459,7 +458,7 @@ pub record CanGoOut (g : Graph) (bound : List ℤ) (n : ℕ) : Type 0 where
   pub lent : n ≡ longest_text
 
 abbrev pub OnlyUnitBounds : Type 0
-OnlyUnitBounds = (g : Graph) (bound : List ℤ) (n : ℕ) → ((text : List ℕ) × (write_assignment g bound n ≡ yields text)) ↔ CanGoOut g bound n
+OnlyUnitBounds = (g : Graph) (bound : List ℤ) (n : ℕ) → ((text : List ℕ) × (write_assignment g bound n ≡ Ok text)) ↔ CanGoOut g bound n
 
 -- "Coming back sets every limit to 1, in an output of 128 numbers, 0 after fish n": what that output holds after a text has come in.
 abbrev pub bounds_after : List ℕ → List ℤ
@@ -474,17 +473,17 @@ BoundsComeInAsOne =
 -- again.
 pub record ReadAssignmentsPass : Type 0 where
   pub accepted : (text : List ℕ) (g : Graph) → ComesInAs text g → Accepts g (unit_bounds g)
-  pub solved : (text : List ℕ) (g : Graph) → ComesInAs text g → (n : ℕ) (index : List ℕ) → build_index g n ≡ yields index →
-      solve g (unit_bounds g) index (lent_for g) ≡ yields tt
-  pub tidied : (text : List ℕ) (g : Graph) → ComesInAs text g → (tidy : List ℕ) × (tidy_graph g longest_text ≡ yields tidy)
-  pub sent_out : (text : List ℕ) (g : Graph) → ComesInAs text g → (out : List ℕ) × (write_assignment g (unit_bounds g) longest_text ≡ yields out)
+  pub solved : (text : List ℕ) (g : Graph) → ComesInAs text g → (n : ℕ) (index : List ℕ) → build_index g n ≡ Ok index →
+      solve g (unit_bounds g) index (lent_for g) ≡ Ok tt
+  pub tidied : (text : List ℕ) (g : Graph) → ComesInAs text g → (tidy : List ℕ) × (tidy_graph g longest_text ≡ Ok tidy)
+  pub sent_out : (text : List ℕ) (g : Graph) → ComesInAs text g → (out : List ℕ) × (write_assignment g (unit_bounds g) longest_text ≡ Ok out)
 
 -- "Convert a sheet to that layout and back": a two-sided sheet whose limits text gives every limit as 1 is written by `to_dimacs`, and of that text
 -- `from_dimacs` writes the sheet, its pairs in the sheet's own order.
 pub record UnitSheet (sheet limits : List ℕ) (g : Graph) : Type 0 where
   pub read : ReadAs sheet g
   pub two_sided : g.kind ≡ Bipartite
-  pub ones : read_numbers Numbers.Bounds (vertices g) (vertices g) limits ≡ yields (unit_bounds g)
+  pub ones : read_numbers Numbers.Bounds (vertices g) (vertices g) limits ≡ Ok (unit_bounds g)
 
 pub record SheetsThereAndBack : Type 0 where
   pub out : (sheet limits : List ℕ) (g : Graph) → UnitSheet sheet limits g → GoesOutAs g (unit_bounds g) (to_dimacs_output sheet limits)
@@ -496,9 +495,9 @@ pub record SheetsThereAndBack : Type 0 where
 -- "Put every family on both sides of a two-sided sheet, each pair once in each direction, with the same limits and merits; solve it": the doubled graph of
 -- every graph that the call accepts passes the tests with its bounds, and the solver takes it with its index.
 pub record DoubledPasses : Type 0 where
-  pub accepted : (g : Graph) (bound : List ℤ) (v e : ℕ) → price_general g bound v e ≡ yields tt → Accepts (doubled g) (doubled_bounds bound)
-  pub solved : (g : Graph) (bound : List ℤ) (v e : ℕ) → price_general g bound v e ≡ yields tt → (n : ℕ) (index : List ℕ) →
-      build_index (doubled g) n ≡ yields index → solve (doubled g) (doubled_bounds bound) index (lent_for (doubled g)) ≡ yields tt
+  pub accepted : (g : Graph) (bound : List ℤ) (v e : ℕ) → price_general g bound v e ≡ Ok tt → Accepts (doubled g) (doubled_bounds bound)
+  pub solved : (g : Graph) (bound : List ℤ) (v e : ℕ) → price_general g bound v e ≡ Ok tt → (n : ℕ) (index : List ℕ) →
+      build_index (doubled g) n ≡ Ok index → solve (doubled g) (doubled_bounds bound) index (lent_for (doubled g)) ≡ Ok tt
 
 -- What holds of the prices that the call leaves, which have no odd sets: they are from 0 to 2,000,000 half points and cover every edge, and their total, in
 -- half points, is the number that every optimal subgraph of the doubled graph weighs in points.
@@ -512,21 +511,21 @@ pub record TankPrices (g : Graph) (bound vertex edge : List ℤ) : Type 0 where
 -- "The result has no groups, covers every pair, and its total equals the largest merit of the doubled sheet."
 abbrev pub TankPricesCover : Type 0
 TankPricesCover =
-    (g : Graph) (bound : List ℤ) (v e : ℕ) (vertex edge : List ℤ) → GeneralLeft g bound v e vertex edge → price_general g bound v e ≡ yields tt →
+    (g : Graph) (bound : List ℤ) (v e : ℕ) (vertex edge : List ℤ) → GeneralLeft g bound v e vertex edge → price_general g bound v e ≡ Ok tt →
     TankPrices g bound vertex edge
 
 -- "So that merit is never less than twice the best tank plan's."
 abbrev pub TwiceTheBest : Type 0
 TwiceTheBest =
-    (g : Graph) (bound : List ℤ) (v e : ℕ) → price_general g bound v e ≡ yields tt → (x : List ℕ) → Optimal (doubled g) (doubled_bounds bound) x →
+    (g : Graph) (bound : List ℤ) (v e : ℕ) → price_general g bound v e ≡ Ok tt → (x : List ℕ) → Optimal (doubled g) (doubled_bounds bound) x →
     (y : List ℕ) → Feasible g bound y → (pos 2 *ℤ weight_of g y) ≤ℤ weight_of (doubled g) x
 
 -- So every feasible subgraph, measured against these prices, is accepted, and its gap is at least twice what it lacks.
 abbrev pub TankPlansMeasured : Type 0
 TankPlansMeasured =
-    (g : Graph) (bound : List ℤ) (v e : ℕ) (vertex edge : List ℤ) → GeneralLeft g bound v e vertex edge → price_general g bound v e ≡ yields tt →
+    (g : Graph) (bound : List ℤ) (v e : ℕ) (vertex edge : List ℤ) → GeneralLeft g bound v e vertex edge → price_general g bound v e ≡ Ok tt →
     (y : List ℕ) → Feasible g bound y →
-    (M : Measures) × (measure g bound y (without_sets vertex edge) ≡ yields M) × Meaning g bound y (without_sets vertex edge) M
+    (M : Measures) × (measure g bound y (without_sets vertex edge) ≡ Ok M) × Meaning g bound y (without_sets vertex edge) M
 
 -- A graph is a tank sheet that is priced: it is general, and has at most 64 vertices and 512 edges.
 pub record TankSheet (g : Graph) : Type 0 where
@@ -543,10 +542,10 @@ pub record PriceTanksWrites : Type 0 where
       PricesPicked sheet limits prices → price_output sheet limits prices ≡ number_text prices
   pub reads : (sheet limits : List ℕ) (prices : List ℤ) (P : Problem) → problem_in sheet limits ≡ has P → TankSheet P.graph →
       PricesPicked sheet limits prices →
-      read_numbers Numbers.Prices (vertices P.graph + P.graph.edges) (vertices P.graph + P.graph.edges) (price_output sheet limits prices) ≡ yields prices
+      read_numbers Numbers.Prices (vertices P.graph + P.graph.edges) (vertices P.graph + P.graph.edges) (price_output sheet limits prices) ≡ Ok prices
   pub marked : (sheet limits plan x : List ℕ) (prices : List ℤ) (P : Problem) → problem_in sheet limits ≡ has P → TankSheet P.graph →
-      PricesPicked sheet limits prices → read_subgraph P.graph P.graph.edges plan ≡ yields x → Feasible P.graph P.bound x →
-      (M : Measures) × (measure P.graph P.bound x (prices_from P.graph prices) ≡ yields M)
+      PricesPicked sheet limits prices → read_subgraph P.graph P.graph.edges plan ≡ Ok x → Feasible P.graph P.bound x →
+      (M : Measures) × (measure P.graph P.bound x (prices_from P.graph prices) ≡ Ok M)
       × Meaning P.graph P.bound x (prices_from P.graph prices) M
       × (mark_output sheet limits plan (price_output sheet limits prices) ≡ measured_line M)
   pub left : (sheet limits before after : List ℕ) (r : ℕ) (P : Problem) → problem_in sheet limits ≡ has P → TankSheet P.graph →

@@ -11,7 +11,7 @@ ghost use Rattle.reach.specs.Reach.{ReachedBy};
 
 use graph::MOST_VERTICES;
 use integers::{both, pick};
-use method::{FAR, LEASTS, MOST_LISTED, MOST_TABLE, MOSTS, SHUT};
+use method::{FAR, KeptEdge, MOST_LISTED, SHUT, State, Table};
 
 // The least distance of an end of a path, the goal; that end; how many vertices are reached; and the vertex settled last with its distance.
 #[derive(Clone, Copy)]
@@ -50,41 +50,37 @@ fn reach(
         goal: pick(ends, goal, f.goal),
         end: pick(ends, w, f.end),
         reached: f.reached + more,
-        vertex: f.vertex,
-        distance: f.distance,
+        ..f
     }
 }
 
-// Looks at edge e from a row vertex to column vertex w, from where the row vertex's price and its distance come to this base. A chosen edge leads nowhere.
+// Looks at a kept edge from its row vertex to its column vertex, from where the row vertex's price and its distance come to this base. A chosen edge leads
+// nowhere.
 pub fn look(
-    price: &[u32; MOST_VERTICES],
-    used: &[u32; MOST_VERTICES],
-    table: &[u32; MOST_TABLE],
+    state: &State,
+    table: &Table,
     label: &mut [u32; MOST_VERTICES],
     distance: &mut [u32; MOST_VERTICES],
     order: &mut [u32; MOST_LISTED],
     base: u32,
-    w: u32,
-    raised: u32,
+    kept: KeptEdge,
     mark: u8,
-    e: u32,
     f: Front,
 ) -> Front
-    requires w_lt_most_vertices { (w < most_vertices) × (f.reached ≤ most_vertices) }
-    requires base_bound { (base ≤ far + top_price) × (entries price.now w ≤ top_price) × (mark ≤ 1) × (raised ≤ top_value) × (mark ≡ 0 → raised ≤ base + entries price.now w) × (entries used.now w < mosts table.now w → entries price.now w ≤ level) }
-    ensures { ReachedBy (far_exit (entries price.now w) (entries used.now w) (mosts table.now w)) w (base + entries price.now w + mark * shut - raised) e f result label.old distance.old order.old label.new distance.new order.new }
+    requires head_in { (kept.head < most_vertices) × (f.reached ≤ most_vertices) }
+    requires base_bound { (base ≤ far + top_price) × (entries state.now.price kept.head ≤ top_price) × (mark ≤ 1) × (kept.value ≤ top_value) × (mark ≡ 0 → kept.value ≤ base + entries state.now.price kept.head) × (entries state.now.used kept.head < mosts table.now kept.head → entries state.now.price kept.head ≤ level) }
+    ensures { ReachedBy (far_exit (entries state.now.price kept.head) (entries state.now.used kept.head) (mosts table.now kept.head)) kept.head (base + entries state.now.price kept.head + mark * shut - kept.value) kept.edge f result label.old distance.old order.old label.new distance.new order.new }
 {
-    let v = w as usize;
-    let h = base + price[v] + mark as u32 * SHUT - raised;
-    let exit = exits::far_exit(price[v], used[v], table[MOSTS + v]);
-    reach(label, distance, order, exit, w, h, e, f)
+    let v = kept.head as usize;
+    let h = base + state.price[v] + mark as u32 * SHUT - kept.value;
+    let exit = exits::far_exit(state.price[v], state.used[v], table.most[v]);
+    reach(label, distance, order, exit, kept.head, h, kept.edge, f)
 }
 
 // Looks at chosen edge e from a column vertex to row vertex w, which it leads to at distance h.
 pub fn look_back(
-    price: &[u32; MOST_VERTICES],
-    used: &[u32; MOST_VERTICES],
-    table: &[u32; MOST_TABLE],
+    state: &State,
+    table: &Table,
     label: &mut [u32; MOST_VERTICES],
     distance: &mut [u32; MOST_VERTICES],
     order: &mut [u32; MOST_LISTED],
@@ -94,9 +90,9 @@ pub fn look_back(
     f: Front,
 ) -> Front
     requires w_lt_most_vertices { (w < most_vertices) × (f.reached ≤ most_vertices) × (h ≤ far + top_value) }
-    requires level_bound { (leasts table.now w < entries used.now w → level ≤ entries price.now w) × (entries price.now w ≤ top_price) }
-    ensures { ReachedBy (near_exit (entries price.now w) (entries used.now w) (leasts table.now w)) w h e f result label.old distance.old order.old label.new distance.new order.new }
+    requires level_bound { (leasts table.now w < entries state.now.used w → level ≤ entries state.now.price w) × (entries state.now.price w ≤ top_price) }
+    ensures { ReachedBy (near_exit (entries state.now.price w) (entries state.now.used w) (leasts table.now w)) w h e f result label.old distance.old order.old label.new distance.new order.new }
 {
-    let exit = exits::near_exit(price[w], used[w], table[LEASTS + w]);
+    let exit = exits::near_exit(state.price[w], state.used[w], table.least[w]);
     reach(label, distance, order, exit, w as u32, h, e, f)
 }

@@ -1,4 +1,5 @@
 -- The writer yields a text just for what it accepts, and it is the text of the marks.
+use Rattle.std.specs.Prelude.{Ok}
 use mathlib.Core.Path.{◌≡◌, refl, sym, ◌∙◌}
 use mathlib.Core.Bool.{true, ◌&&◌}
 use mathlib.Core.List.{List, [], ◌∷◌}
@@ -11,7 +12,7 @@ use Rattle.graph.specs.declared.Kind.{Kind}
 use Rattle.graph.specs.declared.Kind.TheVariants.{Bipartite, General}
 use Rattle.graph.specs.declared.Fault.TheVariants.{LentLength}
 use Rattle.graph.specs.Limits.{subgraph_bytes}
-use Rattle.graph.specs.Refusal.{Outcome, yields, Test, once, passing}
+use Rattle.graph.specs.Refusal.{Outcome, Test, once, passing}
 use Rattle.graph.specs.Graph.{Graph, shape_of, row_at, column_at, up_to, sizes_in_range}
 use Rattle.graph.specs.Tests.{graph_lengths, graph_tests, mark_test}
 use Rattle.graph.proofs.Passing.{Passes, passes, pass}
@@ -33,7 +34,7 @@ module _ (g : Graph) (x : List ℕ) (n : ℕ) where
   number_tests = once LentLength (graph_lengths g && eqb (length x) g.edges && eqb n subgraph_bytes) ∷ graph_tests g
 
   abbrev pub afterwards : Outcome (List ℕ)
-  afterwards = passing (mark_test g x ∷ []) (yields (subgraph_text g x))
+  afterwards = passing (mark_test g x ∷ []) (Ok (subgraph_text g x))
 
   pub writes : write_subgraph g x n ≡ passing number_tests afterwards
   unfolding write_subgraph
@@ -49,15 +50,15 @@ module _ (g : Graph) (x : List ℕ) (n : ℕ) where
     pub kept_accepted : Accepted g x
     kept_accepted = record { passed = graph_passed g lengths.0 numbers.1; marks = marks_passed g x (eqb-true (length x) g.edges lengths.1) marks }
 
-  module _ (text : List ℕ) (h : write_subgraph g x n ≡ yields text) where
+  module _ (text : List ℕ) (h : write_subgraph g x n ≡ Ok text) where
     numbers_kept : Passes number_tests
     numbers_kept = (passes number_tests afterwards text (sym writes ∙ h)).0
 
-    then_yields : afterwards ≡ yields text
+    then_yields : afterwards ≡ Ok text
     then_yields = (passes number_tests afterwards text (sym writes ∙ h)).1
 
     marks_kept : Passes (mark_test g x ∷ [])
-    marks_kept = (passes (mark_test g x ∷ []) (yields (subgraph_text g x)) text then_yields).0
+    marks_kept = (passes (mark_test g x ∷ []) (Ok (subgraph_text g x)) text then_yields).0
 
     pub accepted : Accepted g x
     accepted = kept_accepted numbers_kept marks_kept
@@ -65,19 +66,19 @@ module _ (g : Graph) (x : List ℕ) (n : ℕ) where
     -- The text that is yielded is that of the marks.
     pub text_is : subgraph_text g x ≡ text
     text_is =
-        let e : ◌≡◌ {A = Outcome (List ℕ)} (yields (subgraph_text g x)) (yields text) =
-        (passes (mark_test g x ∷ []) (yields (subgraph_text g x)) text then_yields).1 in
+        let e : ◌≡◌ {A = Outcome (List ℕ)} (Ok (subgraph_text g x)) (Ok text) =
+        (passes (mark_test g x ∷ []) (Ok (subgraph_text g x)) text then_yields).1 in
         cc
 
 -- ---- and back: the writer takes what it accepts
 
-pub writes_accepted : {g : Graph} {x : List ℕ} → Accepted g x → write_subgraph g x subgraph_bytes ≡ yields (subgraph_text g x)
+pub writes_accepted : {g : Graph} {x : List ℕ} → Accepted g x → write_subgraph g x subgraph_bytes ≡ Ok (subgraph_text g x)
 writes_accepted {g} {x} a =
     writes g x subgraph_bytes
     ∙ pass (number_tests g x subgraph_bytes)
     (λ k l. passed_lengths a.passed also eq-eqb (length x) g.edges a.marks.long also refl, passed_tests a.passed)
     (afterwards g x subgraph_bytes)
-    ∙ pass (mark_test g x ∷ []) (marks_test g x a.marks) (yields (subgraph_text g x))
+    ∙ pass (mark_test g x ∷ []) (marks_test g x a.marks) (Ok (subgraph_text g x))
 
 -- ---- the ranges as orders
 

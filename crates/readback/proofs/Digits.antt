@@ -1,8 +1,8 @@
 -- Laws of a number's digits: how many there are, which is first, and that they read as the number, also after its sign.
+use Rattle.std.specs.Prelude.{Option, None, Some, option_map}
 use mathlib.Core.Path.{◌≡◌, refl, sym, ap, ◌∙◌}
 use mathlib.Core.Bool.{Bool, true, false}
 use mathlib.Core.List.{List, [], ◌∷◌, ◌++◌}
-use mathlib.Core.Option.{Option, none, some, map}
 use Prim.Native.Nat.{ℕ, zero, suc, ◌+◌, ◌*◌, ◌-◌, ◌/◌, ◌%◌, ◌^◌, ◌≤◌, ◌<◌}
 use native.Mathlib.Nat.{pow-suc}
 use native.Mathlib.Omega.{arith}
@@ -85,41 +85,41 @@ signed-some (negsuc n) = omega arith
 pub digit-yes : (d : ℕ) → d < 10 → digit (48 + d) ≡ true
 digit-yes d h = simp (le-leb 48 (48 + d) (omega arith), le-leb (48 + d) 57 (omega arith))
 
-pub after_one : (a d : ℕ) → d < 10 → digits_after a ((48 + d) ∷ []) ≡ some (a * 10 + d)
+pub after_one : (a d : ℕ) → d < 10 → digits_after a ((48 + d) ∷ []) ≡ Some (a * 10 + d)
 after_one a d k =
     let v : a * 10 + (48 + d - 48) ≡ a * 10 + d = omega arith in
-    after_yes a (48 + d) [] (digit-yes d k) ∙ after_nil (a * 10 + (48 + d - 48)) ∙ ap some v
+    after_yes a (48 + d) [] (digit-yes d k) ∙ after_nil (a * 10 + (48 + d - 48)) ∙ ap Some v
 
 -- One digit more.
-pub after_snoc : (ds : List ℕ) (a m d : ℕ) → digits_after a ds ≡ some m → d < 10 → digits_after a (ds ++ ((48 + d) ∷ [])) ≡ some (m * 10 + d)
+pub after_snoc : (ds : List ℕ) (a m d : ℕ) → digits_after a ds ≡ Some m → d < 10 → digits_after a (ds ++ ((48 + d) ∷ [])) ≡ Some (m * 10 + d)
 after_snoc [] a m d h k =
-    let e : ◌≡◌ {A = Option ℕ} (some a) (some m) = sym (after_nil a) ∙ h in
+    let e : ◌≡◌ {A = Option ℕ} (Some a) (Some m) = sym (after_nil a) ∙ h in
     let q : a ≡ m = cc in
-    after_one a d k ∙ ap (λ (n : ℕ). some (n * 10 + d)) q
+    after_one a d k ∙ ap (λ (n : ℕ). Some (n * 10 + d)) q
 after_snoc (x ∷ ds) a m d h k = go (digit x) refl (λ e. after_snoc ds (a * 10 + (x - 48)) m d e k)
   where
     go : (b : Bool) → digit x ≡ b
-        → (digits_after (a * 10 + (x - 48)) ds ≡ some m → digits_after (a * 10 + (x - 48)) (ds ++ ((48 + d) ∷ [])) ≡ some (m * 10 + d))
-        → digits_after a (x ∷ (ds ++ ((48 + d) ∷ []))) ≡ some (m * 10 + d)
+        → (digits_after (a * 10 + (x - 48)) ds ≡ Some m → digits_after (a * 10 + (x - 48)) (ds ++ ((48 + d) ∷ [])) ≡ Some (m * 10 + d))
+        → digits_after a (x ∷ (ds ++ ((48 + d) ∷ []))) ≡ Some (m * 10 + d)
     go true is ih = after_yes a x (ds ++ ((48 + d) ∷ [])) is ∙ ih (sym (after_yes a x ds is) ∙ h)
-    go false is ih = let z : ◌≡◌ {A = Option ℕ} none (some m) = sym (after_no a x ds is) ∙ h in zero_one (cc)
+    go false is ih = let z : ◌≡◌ {A = Option ℕ} None (Some m) = sym (after_no a x ds is) ∙ h in zero_one (cc)
 
-pub digits-read : (k n : ℕ) → n < 10 ^ k → digits_after 0 (digits k n) ≡ some n
-digits-read zero n h = let e : n ≡ 0 = zero_of n h in ap (digits_after 0) (digits-none n) ∙ after_nil 0 ∙ ap some (sym e)
+pub digits-read : (k n : ℕ) → n < 10 ^ k → digits_after 0 (digits k n) ≡ Some n
+digits-read zero n h = let e : n ≡ 0 = zero_of n h in ap (digits_after 0) (digits-none n) ∙ after_nil 0 ∙ ap Some (sym e)
   where
     zero_of : (m : ℕ) → m < 1 → m ≡ 0
     zero_of m k = omega arith
 digits-read (suc k) n h = go (ltb n 10) refl (digits-read k (n / 10) (tenth k n h))
   where
-    go : (b : Bool) → ltb n 10 ≡ b → digits_after 0 (digits k (n / 10)) ≡ some (n / 10) → digits_after 0 (digits (suc k) n) ≡ some n
+    go : (b : Bool) → ltb n 10 ≡ b → digits_after 0 (digits k (n / 10)) ≡ Some (n / 10) → digits_after 0 (digits (suc k) n) ≡ Some n
     go true is ih =
         let s : n < 10 = ltb-true n 10 is in
         let v : 0 * 10 + n ≡ n = omega arith in
-        ap (digits_after 0) (digits-short k n s) ∙ after_one 0 n s ∙ ap some v
+        ap (digits_after 0) (digits-short k n s) ∙ after_one 0 n s ∙ ap Some v
     go false is ih =
         let m : n % 10 < 10 = omega arith in
         let v : n / 10 * 10 + n % 10 ≡ n = omega arith in
-        ap (digits_after 0) (digits_long k n (ltb-false n 10 is)) ∙ after_snoc (digits k (n / 10)) 0 (n / 10) (n % 10) ih m ∙ ap some v
+        ap (digits_after 0) (digits_long k n (ltb-false n 10 is)) ∙ after_snoc (digits k (n / 10)) 0 (n / 10) (n % 10) ih m ∙ ap Some v
 
 -- ---- the first digit
 
@@ -159,13 +159,13 @@ decimal-plain (suc n) h =
 
 -- ---- a number that is written reads as itself
 
-pub numeral-back : (n : ℕ) → n < 10 ^ 9 → numeral (decimal n) ≡ some n
+pub numeral-back : (n : ℕ) → n < 10 ^ 9 → numeral (decimal n) ≡ Some n
 unfolding numeral
 numeral-back n h =
     simp (le-leb 1 (length (decimal n)) (decimal-some n), le-leb (length (decimal n)) 9 (decimal-few 8 n h))
     (digits-read 20 n (omega arith))
 
-pub number_back : (n : ℕ) → n < 10 ^ 9 → natural New (decimal n) ≡ some n
+pub number_back : (n : ℕ) → n < 10 ^ 9 → natural New (decimal n) ≡ Some n
 unfolding natural
 number_back n h = rw (decimal-plain n (omega arith)) (numeral-back n h)
 
@@ -176,21 +176,21 @@ pub numeral-first : (x : ℕ) (w : List ℕ) (n : ℕ) → Numeral (x ∷ w) n �
 numeral-first x w n N = digit-in x (after_digit 0 x w N.digits).0
 
 -- A numeral by itself is read as it is, by any rules.
-pub integer-plain : (rules : Rules) (w : List ℕ) (n : ℕ) → Numeral w n → integer rules w ≡ map pos (natural rules w)
+pub integer-plain : (rules : Rules) (w : List ℕ) (n : ℕ) → Numeral w n → integer rules w ≡ option_map pos (natural rules w)
 unfolding integer
 integer-plain rules [] n N = zero_one (omega (arith, N.some_digits))
 integer-plain rules (x ∷ w) n N =
     let r = numeral-first x w n N in
     rw (ne_eqb x 43 (omega (arith, r.0)), ne_eqb x 45 (omega (arith, r.0)))
 
-pub plain_back : (n : ℕ) → n < 10 ^ 9 → integer New (decimal n) ≡ some (pos n)
+pub plain_back : (n : ℕ) → n < 10 ^ 9 → integer New (decimal n) ≡ Some (pos n)
 plain_back n h =
-    integer-plain New (decimal n) n (numeral-is (decimal n) n (numeral-back n h)) ∙ ap (λ (o : Option ℕ). map pos o) (number_back n h)
+    integer-plain New (decimal n) n (numeral-is (decimal n) n (numeral-back n h)) ∙ ap (λ (o : Option ℕ). option_map pos o) (number_back n h)
 
-pub minus_back : (n : ℕ) → suc n < 10 ^ 9 → integer New (45 ∷ decimal (suc n)) ≡ some (negsuc n)
+pub minus_back : (n : ℕ) → suc n < 10 ^ 9 → integer New (45 ∷ decimal (suc n)) ≡ Some (negsuc n)
 unfolding integer
 minus_back n h = rw (number_back (suc n) h, ne_eqb (suc n) 0 (omega arith))
 
-pub signed_back : (z : ℤ) → Within greatest_weight z → integer New (signed z) ≡ some z
+pub signed_back : (z : ℤ) → Within greatest_weight z → integer New (signed z) ≡ Some z
 signed_back (pos n) h = plain_back n (omega arith)
 signed_back (negsuc n) h = minus_back n (omega arith)

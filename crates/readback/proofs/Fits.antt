@@ -1,4 +1,5 @@
 -- The texts that are written fit: each line is short, and the whole has at most 8,256 bytes for a subgraph, and 17,472 for a graph.
+use Rattle.std.specs.Prelude.{Ok}
 use mathlib.Core.Path.{◌≡◌, refl, ap}
 use mathlib.Core.Bool.{Bool, true, false, cond}
 use mathlib.Core.List.{List, [], ◌∷◌, ◌++◌}
@@ -10,7 +11,6 @@ use Rattle.integers.specs.Sum.{sum}
 use Rattle.integers.proofs.Sum.{sum_mono, sum-const}
 use Rattle.graph.specs.declared.Kind.{Kind}
 use Rattle.graph.specs.declared.Kind.TheVariants.{Bipartite, General}
-use Rattle.graph.specs.Refusal.{yields}
 use Rattle.graph.specs.Limits.{greatest_weight, subgraph_bytes}
 use Rattle.graph.specs.Graph.{Graph, shape_of, row_at, column_at, weight_at}
 use Rattle.graph.specs.Subgraph.{mark_at}
@@ -108,7 +108,7 @@ text_le g x S M =
     )
 
 -- A text that is yielded fits the 16,384 bytes of the output, and so the 32,768 that a reader takes.
-pub text-fits : (g : Graph) (x : List ℕ) (n : ℕ) (text : List ℕ) → write_subgraph g x n ≡ yields text → length text ≤ subgraph_bytes
+pub text-fits : (g : Graph) (x : List ℕ) (n : ℕ) (text : List ℕ) → write_subgraph g x n ≡ Ok text → length text ≤ subgraph_bytes
 text-fits g x n text h =
     let a = accepted g x n text h in
     omega (arith, text_le g x a.passed.sound a.marks, ap length (text_is g x n text h))

@@ -1,8 +1,8 @@
 -- What a graph is written as, the graph reader reads back: the same graph, its edges in the same order.
+use Rattle.std.specs.Prelude.{Some, Ok}
 use mathlib.Core.Path.{◌≡◌, refl, sym, ap, ap₂, ◌∙◌}
 use mathlib.Core.Bool.{Bool, true, false, cond, ◌&&◌}
 use mathlib.Core.List.{List, [], ◌∷◌, ◌++◌}
-use mathlib.Core.Option.{some}
 use Prim.Native.Nat.{ℕ, suc, ◌<◌}
 use native.Mathlib.Omega.{arith}
 use lib.Dec.{ltb, eqb}
@@ -14,7 +14,6 @@ use Rattle.graph.specs.declared.Kind.{Kind}
 use Rattle.graph.specs.declared.Kind.TheVariants.{Bipartite, General}
 use Rattle.graph.specs.declared.Fault.TheVariants.{Sizes}
 use Rattle.graph.specs.Limits.{most_edges}
-use Rattle.graph.specs.Refusal.{yields}
 use Rattle.graph.specs.Graph.{Graph, graph_of, shape_of, row_at, column_at, weight_at, joins, joined}
 use Rattle.graph.specs.Passed.{Passed}
 use Rattle.graph.proofs.Passed.{weight_hold}
@@ -91,12 +90,12 @@ module _ {g : Graph} (P : Passed g) where
         ∙ P.apart n l
 
     -- The next edge is added.
-    pub edge_next : graph_edge (first_edges g n) (some (row_at g n, column_at g n, weight_at g n)) ≡ goes (first_edges g (suc n))
+    pub edge_next : graph_edge (first_edges g n) (Some (row_at g n, column_at g n, weight_at g n)) ≡ goes (first_edges g (suc n))
     edge_next = rw ((P.sound.ends n l).test, P.weights n l, edges-apart) (ap goes edges-next)
 
     -- ---- what its line does
 
-    edge_back : edge_on New Field.Integer (words (edge_line g n)) ≡ some (row_at g n, column_at g n, weight_at g n)
+    edge_back : edge_on New Field.Integer (words (edge_line g n)) ≡ Some (row_at g n, column_at g n, weight_at g n)
     unfolding three_words
     edge_back =
         rw (
@@ -156,7 +155,7 @@ module _ {g : Graph} (P : Passed g) where
           free_spaced newline (decimal (row_at g n) ∷ decimal (column_at g n) ∷ signed (weight_at g n) ∷ []) refl
           (decimal-no_newline (row_at g n), (decimal-no_newline (column_at g n), (signed-no_newline (weight_at g n), tt)))
 
-  all_read : read_lines (graph_layout New Field.Integer) 1 start (header_text Field.Integer g.kind ∷ size_text ∷ edge_lines g g.edges) ≡ yields g
+  all_read : read_lines (graph_layout New Field.Integer) 1 start (header_text Field.Integer g.kind ∷ size_text ∷ edge_lines g g.edges) ≡ Ok g
   all_read =
       reaches_text (graph_layout New Field.Integer) g.kind (first_edges g 0) (first_edges g g.edges) 1 (header_text Field.Integer g.kind) size_text
       (edge_lines g g.edges) header-step size_step
@@ -164,10 +163,10 @@ module _ {g : Graph} (P : Passed g) where
       (λ n l. reaches_one (graph_layout New Field.Integer) (reading (first_edges g n)) (reading (first_edges g (suc n))) (edge_line g n) (edge_step n l))
       g.edges (omega arith))
       edges-came
-      ∙ ap yields edges-all
+      ∙ ap Ok edges-all
 
   -- The text of a graph that has passed reads as that graph.
-  pub graph_back : read_graph most_edges most_edges most_edges (graph_text g) ≡ yields g
+  pub graph_back : read_graph most_edges most_edges most_edges (graph_text g) ≡ Ok g
   unfolding read_graph_by
   graph_back =
       pass (graph_reader_tests most_edges most_edges most_edges (graph_text g))

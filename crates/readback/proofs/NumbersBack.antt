@@ -1,8 +1,8 @@
 -- What bounds (limits) or prices are written as, the number reader reads back: the same numbers, in the same order.
+use Rattle.std.specs.Prelude.{Some, Ok}
 use mathlib.Core.Path.{◌≡◌, refl, ap, ◌∙◌, subst}
 use mathlib.Core.Bool.{Bool, true, false, cond}
 use mathlib.Core.List.{List, [], ◌∷◌, ◌++◌, map, append-nil}
-use mathlib.Core.Option.{some}
 use Prim.Native.Nat.{ℕ, suc, ◌+◌, ◌*◌, ◌^◌, ◌≤◌, ◌<◌}
 use native.Mathlib.Nat.{suc-mul}
 use native.Mathlib.Omega.{arith}
@@ -16,7 +16,6 @@ use Rattle.integers.specs.Integer.{between}
 use Rattle.integers.proofs.Order.{order, between-true}
 use Rattle.graph.specs.declared.Fault.TheVariants.{Sizes}
 use Rattle.graph.specs.Limits.{most_numbers, greatest_bound, greatest_price}
-use Rattle.graph.specs.Refusal.{yields}
 use Rattle.graph.proofs.Passing.{pass}
 use Rattle.graph.proofs.Ranges.{◌also◌}
 use Rattle.layout.specs.declared.Rules.TheVariants.{New}
@@ -38,7 +37,7 @@ use Rattle.readback.proofs.ReadBack.{two-words, two_back}
 -- A number that is written with at most 7 bytes, and reads as itself.
 record Short (z : ℤ) : Type 0 where
   few : length (signed z) ≤ 7
-  back : integer New (signed z) ≡ some z
+  back : integer New (signed z) ≡ Some z
 
 short : (m : ℕ) (z : ℤ) → m < 10 ^ 7 → between (pos 0) (pos m) z ≡ true → Short z
 short m z h e = let w = between-true (pos 0) (pos m) z e in go z w.0 w.1
@@ -153,7 +152,7 @@ module _ (what : Numbers) (zs : List ℤ) (some-numbers : 1 ≤ length zs) (few 
   abbrev all_lines : List (List ℕ)
   all_lines = array_header ∷ count_line (length zs) ∷ map signed zs
 
-  all_read : read_lines (new_layout what (length zs)) 1 start all_lines ≡ yields zs
+  all_read : read_lines (new_layout what (length zs)) 1 start all_lines ≡ Ok zs
   all_read =
       reaches_text (new_layout what (length zs)) tt [] zs 1 array_header (count_line (length zs)) (map signed zs) (on_start (new_layout what (length zs)) array_header tt refl head_read) size_step
       (values-read what (length zs) [] zs (omega arith) range) (le-ltb (length zs) (length zs) (omega arith))
@@ -176,7 +175,7 @@ module _ (what : Numbers) (zs : List ℤ) (some-numbers : 1 ≤ length zs) (few 
       )
 
   -- The text of numbers in range reads as those numbers.
-  pub numbers_back : read_numbers what (length zs) (length zs) (number_text zs) ≡ yields zs
+  pub numbers_back : read_numbers what (length zs) (length zs) (number_text zs) ≡ Ok zs
   unfolding read_numbers_by
   numbers_back =
       pass (number_reader_tests (length zs) (length zs) (number_text zs)) (

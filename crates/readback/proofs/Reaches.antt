@@ -1,11 +1,11 @@
 -- Reading lines from the top, a line at a time.
+use Rattle.std.specs.Prelude.{Ok}
 use mathlib.Core.Path.{◌≡◌, sym, ap, ◌∙◌}
 use mathlib.Core.Bool.{true, false}
 use mathlib.Core.List.{List, [], ◌∷◌, ◌++◌, append_assoc, append-nil}
 use Prim.Native.Nat.{ℕ, ◌+◌}
 use native.Mathlib.Omega.{arith}
 use lib.ListN.{length, length-append}
-use Rattle.graph.specs.Refusal.{yields}
 use Rattle.layout.specs.Text.{line_fits, blank_line, comment_line}
 use Rattle.layout.specs.Lines.{Step, goes, State, start, sizing, reading, Layout, on_line, at_end, on_step, read_lines}
 
@@ -46,7 +46,7 @@ module _ {H B R : Type 0} (L : Layout H B R) where
   unfolding on_line
   on_reading b l c fits full more is = rw (fits, full, more, is)
 
-  pub at-end : (k : ℕ) (b : B) → L.more b ≡ false → read_lines L k (reading b) [] ≡ yields (L.result b)
+  pub at-end : (k : ℕ) (b : B) → L.more b ≡ false → read_lines L k (reading b) [] ≡ Ok (L.result b)
   unfolding read_lines at_end
   at-end k b h = rw h
 
@@ -56,12 +56,12 @@ module _ {H B R : Type 0} (L : Layout H B R) where
 
   -- Lines that lead to a state where none is to come give its result.
   pub reaches_end : (s : State H B) (ls : List (List ℕ)) (b : B) (k : ℕ) → Reaches (read_lines L) s ls (reading b) → L.more b ≡ false
-      → read_lines L k s ls ≡ yields (L.result b)
+      → read_lines L k s ls ≡ Ok (L.result b)
   reaches_end s ls b k f h = reaches_all (read_lines L) s (reading b) ls f k ∙ at-end (k + length ls) b h
 
   -- A whole text: its header line, its size line, and lines that lead to a state where none is to come.
   pub reaches_text : (h : H) (b c : B) (k : ℕ) (l n : List ℕ) (ls : List (List ℕ)) → on_line L start l ≡ goes (sizing h) → on_line L (sizing h) n ≡ goes (reading b)
-      → Reaches (read_lines L) (reading b) ls (reading c) → L.more c ≡ false → read_lines L k start (l ∷ n ∷ ls) ≡ yields (L.result c)
+      → Reaches (read_lines L) (reading b) ls (reading c) → L.more c ≡ false → read_lines L k start (l ∷ n ∷ ls) ≡ Ok (L.result c)
   reaches_text h b c k l n ls header size rest last =
       reaches_end start (l ∷ n ∷ ls) c k
       (reaches_append (read_lines L) start (sizing h) (reading c) (l ∷ []) (n ∷ ls) (reaches_one start (sizing h) l header)

@@ -1,9 +1,9 @@
 -- What the subgraph writer writes, the subgraph reader reads back: the same marks, for every graph and all marks that the writer accepts.
+use Rattle.std.specs.Prelude.{Some, Ok}
 use mathlib.Core.Path.{◌≡◌, refl, sym, ap, ap₂, ◌∙◌}
 use mathlib.Core.Logic.{◌≢◌}
 use mathlib.Core.Bool.{Bool, true, false, not, cond, ◌&&◌}
 use mathlib.Core.List.{List, [], ◌∷◌, ◌++◌, append-nil}
-use mathlib.Core.Option.{some}
 use Prim.Native.Nat.{ℕ, suc, ◌+◌, ◌-◌, ◌^◌, ◌≤◌, ◌<◌}
 use native.Mathlib.Omega.{arith}
 use lib.Dec.{ltb, leb, eqb}
@@ -15,7 +15,7 @@ use Rattle.integers.proofs.Sum.{sum-split}
 use Rattle.graph.specs.declared.Kind.{Kind}
 use Rattle.graph.specs.declared.Kind.TheVariants.{Bipartite, General}
 use Rattle.graph.specs.declared.Fault.TheVariants.{TextLength, LentLength, Ends, SameEnds, Sizes, Disagreement}
-use Rattle.graph.specs.Refusal.{Outcome, yields, once, passing}
+use Rattle.graph.specs.Refusal.{Outcome, once, passing}
 use Rattle.graph.specs.Graph.{Graph, row_at, column_at, joins}
 use Rattle.graph.specs.Subgraph.{mark_at}
 use Rattle.graph.specs.Tests.{graph_lengths, graph_tests}
@@ -50,12 +50,12 @@ three-words r c n =
     words-spaced (decimal r ∷ decimal c ∷ decimal n ∷ [])
     (decimal-some r, decimal-no_blank r, (decimal-some c, decimal-no_blank c, (decimal-some n, decimal-no_blank n, tt)))
 
-pub two_back : (r c : ℕ) → r < 10 ^ 9 → c < 10 ^ 9 → two_words (natural New) (natural New) (words (spaced (decimal r ∷ decimal c ∷ []))) ≡ some (r, c)
+pub two_back : (r c : ℕ) → r < 10 ^ 9 → c < 10 ^ 9 → two_words (natural New) (natural New) (words (spaced (decimal r ∷ decimal c ∷ []))) ≡ Some (r, c)
 unfolding two_words
 two_back r c h k = rw (two-words r c, number_back r h, number_back c k)
 
 pub three_back : (r c n : ℕ) → r < 10 ^ 9 → c < 10 ^ 9 → n < 10 ^ 9
-    → three_words (natural New) (natural New) (natural New) (words (spaced (decimal r ∷ decimal c ∷ decimal n ∷ []))) ≡ some (r, c, n)
+    → three_words (natural New) (natural New) (natural New) (words (spaced (decimal r ∷ decimal c ∷ decimal n ∷ []))) ≡ Some (r, c, n)
 unfolding three_words
 three_back r c n h k l = rw (three-words r c n, number_back r h, number_back c k, number_back n l)
 
@@ -77,7 +77,7 @@ pub same_kind : (k : Kind) → kinds_agree k k ≡ true
 same_kind Bipartite = refl
 same_kind General = refl
 
-pub header-back : (k : Kind) → subgraph_kind (header_text Field.Pattern k) ≡ some k
+pub header-back : (k : Kind) → subgraph_kind (header_text Field.Pattern k) ≡ Some k
 unfolding header header_words same_folded same words non_empty pieces on_first
 header-back Bipartite = refl
 header-back General = refl
@@ -133,7 +133,7 @@ module _ (m : ℕ) (x : List ℕ) (long : length x ≡ m) where
 -- ---- the edge that a line names
 
 -- No two edges have the same ends, so an edge is found by its own.
-pub edge_found : {g : Graph} → Passed g → (n : ℕ) → n < g.edges → edge_with g (row_at g n) (column_at g n) ≡ some n
+pub edge_found : {g : Graph} → Passed g → (n : ℕ) → n < g.edges → edge_with g (row_at g n) (column_at g n) ≡ Some n
 edge_found {g} P n l =
     some_lowest g.edges (λ e. not (joins g (row_at g n) (column_at g n) e)) n (record {
       among = l;
@@ -258,11 +258,11 @@ module _ {g : Graph} {x : List ℕ} (a : Accepted g x) where
   abbrev text_lines : List (List ℕ)
   text_lines = header_text Field.Pattern g.kind ∷ size_line ∷ chosen_lines g x g.edges
 
-  all_read : read_lines (subgraph_layout New g) 1 start text_lines ≡ yields x
+  all_read : read_lines (subgraph_layout New g) 1 start text_lines ≡ Ok x
   all_read =
       reaches_text (subgraph_layout New g) tt (state_at g x 0) (state_at g x g.edges) 1 (header_text Field.Pattern g.kind) size_line (chosen_lines g x g.edges)
       header-step size_step (lines-read g.edges (omega arith)) (le-ltb (count_of g x) (count_of g x) (omega arith))
-      ∙ ap yields (marks_all g.edges x a.marks.long)
+      ∙ ap Ok (marks_all g.edges x a.marks.long)
 
   chosen_free : (n : ℕ) → AllFree newline (chosen_lines g x n)
   chosen_free = growing_free (chosen_growing g x) (λ n. go n (eqb (mark_at x n) 1))
@@ -284,7 +284,7 @@ module _ {g : Graph} {x : List ℕ} (a : Accepted g x) where
       )
 
   -- The text of marks reads as those marks.
-  pub text_back : read_subgraph g (length x) (subgraph_text g x) ≡ yields x
+  pub text_back : read_subgraph g (length x) (subgraph_text g x) ≡ Ok x
   unfolding read_subgraph_by
   text_back =
       pass (once LentLength (graph_lengths g && eqb (length x) g.edges) ∷ graph_tests g) (
@@ -300,13 +300,13 @@ module _ {g : Graph} {x : List ℕ} (a : Accepted g x) where
 -- ---- the two promises
 
 -- Reading a text that the writer yields, as a subgraph of the same graph, gives exactly the marks that were written.
-pub read_back : (g : Graph) (x : List ℕ) (n : ℕ) (text : List ℕ) → write_subgraph g x n ≡ yields text → read_subgraph g (length x) text ≡ yields x
+pub read_back : (g : Graph) (x : List ℕ) (n : ℕ) (text : List ℕ) → write_subgraph g x n ≡ Ok text → read_subgraph g (length x) text ≡ Ok x
 read_back g x n text h = ap (read_subgraph g (length x)) (sym (text_is g x n text h)) ∙ text_back (accepted g x n text h)
 
 -- Two different subgraphs of a graph are never written alike.
-pub written_apart : (g : Graph) (x y : List ℕ) (n k : ℕ) (text : List ℕ) → write_subgraph g x n ≡ yields text → write_subgraph g y k ≡ yields text → x ≡ y
+pub written_apart : (g : Graph) (x y : List ℕ) (n k : ℕ) (text : List ℕ) → write_subgraph g x n ≡ Ok text → write_subgraph g y k ≡ Ok text → x ≡ y
 written_apart g x y n k text h j =
     let e : length x ≡ length y = omega (arith, (accepted g x n text h).marks.long, (accepted g y k text j).marks.long) in
-    let q : ◌≡◌ {A = Outcome (List ℕ)} (yields x) (yields y) =
+    let q : ◌≡◌ {A = Outcome (List ℕ)} (Ok x) (Ok y) =
     sym (read_back g x n text h) ∙ ap (λ (m : ℕ). read_subgraph g m text) e ∙ read_back g y k text j in
     cc

@@ -1,10 +1,11 @@
 -- How lines that yield are read, line by line: what a proof over the lines of a text goes by.
+use Rattle.std.specs.Prelude.{Ok}
 use mathlib.Core.Path.{◌≡◌, refl, sym}
 use mathlib.Core.Bool.{Bool, true, false, cond, ◌||◌}
 use mathlib.Core.List.{List, [], ◌∷◌}
 use Prim.Native.Nat.{ℕ, ◌+◌}
 use Rattle.graph.specs.declared.Fault.TheVariants.{Header, SizeLine, LaterLine}
-use Rattle.graph.specs.Refusal.{yields, refuses}
+use Rattle.graph.specs.Refusal.{refuses}
 use Rattle.graph.proofs.Passing.{zero_one}
 use Rattle.layout.specs.Text.{line_fits, blank_line, comment_line}
 use Rattle.layout.specs.Lines.{Step, goes, stops, State, start, sizing, reading, Layout, sized, begun, on_line, at_end, on_step, read_lines}
@@ -26,7 +27,7 @@ pub data Reads {H B R : Type 0} (L : Layout H B R) : State H B → List (List �
 module _ {H B R : Type 0} (L : Layout H B R) where
   -- ---- lines that are read yield
 
-  pub reads_yield : {s : State H B} {ls : List (List ℕ)} {b : B} → Reads L s ls b → (k : ℕ) → read_lines L k s ls ≡ yields (L.result b)
+  pub reads_yield : {s : State H B} {ls : List (List ℕ)} {b : B} → Reads L s ls b → (k : ℕ) → read_lines L k s ls ≡ Ok (L.result b)
   unfolding read_lines on_line at_end
   reads_yield (done last) k = rw last
   reads_yield (by_header fits is rest) k = rw (fits, is) (reads_yield rest (k + 1))
@@ -43,13 +44,13 @@ module _ {H B R : Type 0} (L : Layout H B R) where
     pub reads : Reads L s ls last
     pub result : L.result last ≡ r
 
-  end_read : (k : ℕ) (s : State H B) (r : R) → read_lines L k s [] ≡ yields r → Read s [] r
+  end_read : (k : ℕ) (s : State H B) (r : R) → read_lines L k s [] ≡ Ok r → Read s [] r
   unfolding read_lines at_end
   end_read k start r e = zero_one (cc)
   end_read k (sizing h) r e = zero_one (cc)
   end_read k (reading b) r e = go (L.more b) refl e
     where
-      go : (m : Bool) → L.more b ≡ m → cond m (refuses LaterLine k) (yields (L.result b)) ≡ yields r → Read (reading b) [] r
+      go : (m : Bool) → L.more b ≡ m → cond m (refuses LaterLine k) (Ok (L.result b)) ≡ Ok r → Read (reading b) [] r
       go true is e = zero_one (cc)
       go false is e = record { last = b; reads = done is; result = cc }
 
@@ -97,12 +98,12 @@ module _ {H B R : Type 0} (L : Layout H B R) where
     line_read (sizing h) t e w = size_read h (line_fits l) (blank_line l || comment_line l) (L.size_line h l) refl refl refl t e w
     line_read (reading c) t e w = later_read c (line_fits l) (blank_line l) (L.more c) (L.later_line c l) refl refl refl refl t e w
 
-  pub yield_reads : (k : ℕ) (s : State H B) (ls : List (List ℕ)) (r : R) → read_lines L k s ls ≡ yields r → Read s ls r
+  pub yield_reads : (k : ℕ) (s : State H B) (ls : List (List ℕ)) (r : R) → read_lines L k s ls ≡ Ok r → Read s ls r
   unfolding read_lines
   yield_reads k s [] r e = end_read k s r e
   yield_reads k s (l ∷ ls) r e = go (on_line L s l) refl e (λ t. yield_reads (k + 1) t ls r)
     where
-      go : (o : Step (State H B)) → on_line L s l ≡ o → on_step k o (λ t. read_lines L (k + 1) t ls) ≡ yields r
-          → ((t : State H B) → read_lines L (k + 1) t ls ≡ yields r → Read t ls r) → Read s (l ∷ ls) r
+      go : (o : Step (State H B)) → on_line L s l ≡ o → on_step k o (λ t. read_lines L (k + 1) t ls) ≡ Ok r
+          → ((t : State H B) → read_lines L (k + 1) t ls ≡ Ok r → Read t ls r) → Read s (l ∷ ls) r
       go (goes t) is e ih = line_read l ls r s t is (ih t e)
       go (stops f) is e ih = zero_one (cc)

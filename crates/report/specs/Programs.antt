@@ -1,9 +1,9 @@
 -- What the programs write, from the texts of the files they read. An absent file is an empty text.
-use Rattle.std.specs.Prelude.{ℕ, ◌+◌, ◌≡◌, Bool, true, List, [], ◌∷◌, eqb, leb, ℤ, length, replicate, take, drop}
+use Rattle.std.specs.Prelude.{ℕ, ◌+◌, ◌≡◌, Bool, true, List, [], ◌∷◌, eqb, leb, ℤ, length, replicate, take, drop, Ok, Err}
 use Rattle.graph.specs.declared.Fault.{Fault}
 use Rattle.graph.specs.declared.Fault.TheVariants.{LentLength}
 use Rattle.graph.specs.Limits.{most_vertices, most_edges, longest_text, subgraph_bytes, workspace_numbers}
-use Rattle.graph.specs.Refusal.{Outcome, yields, refuses, once, passing, filled}
+use Rattle.graph.specs.Refusal.{Outcome, once, passing, filled}
 use Rattle.graph.specs.Graph.{Graph, vertices}
 use Rattle.graph.specs.Subgraph.{Optimal}
 use Rattle.graph.specs.Index.{index_numbers, build_index}
@@ -19,7 +19,6 @@ use Rattle.dual.specs.Measure.{measure}
 use Rattle.dual.specs.Solve.{Lent, solve, without_sets}
 use Rattle.dual.specs.PriceGeneral.{price_general, DoublyPriced}
 use Rattle.report.specs.declared.Source.{Source}
-use Rattle.report.specs.declared.Source.TheVariants as Source
 use Rattle.report.specs.Report.{refused_line, measured_line, Composed}
 
 -- How far a program comes: it has a value, or the first refusal has ended it.
@@ -39,8 +38,8 @@ run_output n z f (ends source fault place) = replicate n z
 
 -- What comes from a text, or from no reader.
 abbrev pub came_from : {A : Type 0} → Source → Outcome A → Run A
-came_from source (yields a) = has a
-came_from source (refuses fault place) = ends source fault place
+came_from source (Ok a) = has a
+came_from source (Err refusal) = ends source refusal.fault refusal.place
 
 abbrev pub and_then : {A B : Type 0} → Run A → (A → Run B) → Run B
 and_then (has a) next = next a

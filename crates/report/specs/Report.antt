@@ -5,7 +5,6 @@ use Rattle.graph.specs.Refusal.{number_of, filled}
 use Rattle.layout.specs.Text.{bytes, decimal, signed, spaced, unlines}
 use Rattle.dual.specs.declared.Measures.{Measures}
 use Rattle.report.specs.declared.Source.{Source}
-use Rattle.report.specs.declared.Source.TheVariants as Source
 
 -- FILE: the bare name of the file that is read, or `input` where a refusal comes from no reader.
 abbrev pub name_of : Source → List ℕ

@@ -8,9 +8,9 @@ use files::FILE_BYTES;
 use graph::LONGEST_TEXT;
 
 fn main(rt: HostRuntime) {
-    let mut old = [0u8; FILE_BYTES];
-    let n = files::read(&rt, b"old.mtx", &mut old);
+    let mut old_buffer = [0u8; FILE_BYTES];
+    let old = files::read(&rt, b"old.mtx", &mut old_buffer);
     let mut out = [0u8; LONGEST_TEXT];
-    let length = output::rewrite_output(&old[..n], &mut out);
-    files::write(&rt, &out, length);
+    let length = output::rewrite_output(old, &mut out);
+    files::write(&rt, &out[..length]);
 }

@@ -1,8 +1,8 @@
 -- Words, lines and texts anew: what is kept of them, and that they come apart as they were put together.
+use Rattle.std.specs.Prelude.{Option, None, Some}
 use mathlib.Core.Path.{◌≡◌, refl, sym, ap, ap₂, ◌∙◌}
 use mathlib.Core.Bool.{Bool, true, false, ◌||◌}
 use mathlib.Core.List.{List, [], ◌∷◌, ◌++◌, append-nil, map}
-use mathlib.Core.Option.{Option, none, some}
 use Prim.Native.Nat.{ℕ, suc, ◌+◌, ◌≤◌, ◌<◌}
 use native.Mathlib.Omega.{arith}
 use lib.Dec.{eqb}
@@ -28,12 +28,12 @@ signed-free p none_of minus (pos n) = digits-free p none_of 20 n
 signed-free p none_of minus (negsuc n) = (minus, digits-free p none_of 20 (suc n))
 
 -- What holds of a word and of every number as it is written holds of the word anew.
-by_word : (P : List ℕ → Type 0) (w : List ℕ) → P w → ((z : ℤ) → integer Old w ≡ some z → P (signed z)) → P (word_anew w)
+by_word : (P : List ℕ → Type 0) (w : List ℕ) → P w → ((z : ℤ) → integer Old w ≡ Some z → P (signed z)) → P (word_anew w)
 by_word P w a b = go (integer Old w) refl
   where
     go : (o : Option ℤ) → integer Old w ≡ o → P (written_as w o)
-    go none is = a
-    go (some z) is = b z is
+    go None is = a
+    go (Some z) is = b z is
 
 pub word_free : (p : ℕ → Bool) → ((d : ℕ) → d < 10 → p (48 + d) ≡ false) → p 45 ≡ false → (w : List ℕ) → Free p w → Free p (word_anew w)
 word_free p none_of minus w f = by_word (Free p) w f (λ z is. signed-free p none_of minus z)

@@ -1,15 +1,14 @@
 -- What the old rules yield of a text, the new ones yield of the text anew; and a text that the new ones take is left as it is. Once, for any two
 -- layouts that differ in how a number is read, and then for each sort of text.
+use Rattle.std.specs.Prelude.{Option, None, Some, Ok}
 use mathlib.Core.Path.{◌≡◌, refl, sym, ap, ap₂, ◌∙◌}
 use mathlib.Core.Bool.{Bool, true, false, ◌||◌, or-true}
 use mathlib.Core.List.{List, [], ◌∷◌, map}
-use mathlib.Core.Option.{Option, none, some}
 use Prim.Native.Nat.{ℕ}
 use native.Mathlib.Omega.{arith}
 use lib.IntN.{ℤ}
 use lib.ListN.{length}
 use borrow.Author.Tests.{le-leb, leb-true}
-use Rattle.graph.specs.Refusal.{yields}
 use Rattle.graph.proofs.Passing.{zero_one}
 use Rattle.layout.specs.declared.Rules.TheVariants.{New, Old}
 use Rattle.layout.specs.Text.{lines, words, natural, integer, pair_of_options, all3, one_word, two_words, three_words, no_words, line_fits, blank_line, comment_line}
@@ -24,8 +23,8 @@ use Rattle.rewriting.proofs.Anew.{line_blank, line_length, line_kept, line_comme
 
 -- What f reads of a word, g reads of the word anew; and a word that g reads f reads too, and it is left as it is.
 pub record WordAlike {A : Type 0} (f g : List ℕ → Option A) : Type 0 where
-  pub anew : (w : List ℕ) (a : A) → f w ≡ some a → g (word_anew w) ≡ some a
-  pub same : (w : List ℕ) (a : A) → g w ≡ some a → (f w ≡ some a) × (word_anew w ≡ w)
+  pub anew : (w : List ℕ) (a : A) → f w ≡ Some a → g (word_anew w) ≡ Some a
+  pub same : (w : List ℕ) (a : A) → g w ≡ Some a → (f w ≡ Some a) × (word_anew w ≡ w)
 
 pub kept_naturals : WordAlike (natural Old) (natural New)
 kept_naturals = record {
@@ -44,35 +43,35 @@ kept_integers = record {
 
 -- ---- the words of a line
 
-both_some : {A B : Type 0} (o : Option A) (p : Option B) (c : A × B) → pair_of_options o p ≡ some c → (o ≡ some c.0) × (p ≡ some c.1)
-both_some none p c e = absent e
-both_some (some a) none c e = absent e
-both_some {A} {B} (some a) (some b) c e =
+both_some : {A B : Type 0} (o : Option A) (p : Option B) (c : A × B) → pair_of_options o p ≡ Some c → (o ≡ Some c.0) × (p ≡ Some c.1)
+both_some None p c e = absent e
+both_some (Some a) None c e = absent e
+both_some {A} {B} (Some a) (Some b) c e =
     let q : ◌≡◌ {A = A × B} (a, b) c = cc in
-    (ap (λ (x : A × B). some x.0) q, ap (λ (x : A × B). some x.1) q)
+    (ap (λ (x : A × B). Some x.0) q, ap (λ (x : A × B). Some x.1) q)
 
-all3-some : {A B C : Type 0} (o : Option A) (p : Option B) (q : Option C) (d : A × B × C) → all3 o p q ≡ some d →
-    (o ≡ some d.0) × (p ≡ some d.1) × (q ≡ some d.2)
-all3-some none p q d e = absent e
-all3-some (some a) none q d e = absent e
-all3-some (some a) (some b) none d e = absent e
-all3-some {A} {B} {C} (some a) (some b) (some c) d e =
+all3-some : {A B C : Type 0} (o : Option A) (p : Option B) (q : Option C) (d : A × B × C) → all3 o p q ≡ Some d →
+    (o ≡ Some d.0) × (p ≡ Some d.1) × (q ≡ Some d.2)
+all3-some None p q d e = absent e
+all3-some (Some a) None q d e = absent e
+all3-some (Some a) (Some b) None d e = absent e
+all3-some {A} {B} {C} (Some a) (Some b) (Some c) d e =
     let q : ◌≡◌ {A = A × B × C} (a, b, c) d = cc in
-    (ap (λ (x : A × B × C). some x.0) q, ap (λ (x : A × B × C). some x.1) q, ap (λ (x : A × B × C). some x.2) q)
+    (ap (λ (x : A × B × C). Some x.0) q, ap (λ (x : A × B × C). Some x.1) q, ap (λ (x : A × B × C). Some x.2) q)
 
 -- The same of the words of a line.
 pub record WordsAlike {A : Type 0} (f g : List (List ℕ) → Option A) : Type 0 where
-  pub anew : (ws : List (List ℕ)) (a : A) → f ws ≡ some a → g (map word_anew ws) ≡ some a
-  pub same : (ws : List (List ℕ)) (a : A) → g ws ≡ some a → (f ws ≡ some a) × (map word_anew ws ≡ ws)
+  pub anew : (ws : List (List ℕ)) (a : A) → f ws ≡ Some a → g (map word_anew ws) ≡ Some a
+  pub same : (ws : List (List ℕ)) (a : A) → g ws ≡ Some a → (f ws ≡ Some a) × (map word_anew ws ≡ ws)
 
 module _ {A : Type 0} {f f' : List ℕ → Option A} (F : WordAlike f f') where
-  one-anew : (ws : List (List ℕ)) (a : A) → one_word f ws ≡ some a → one_word f' (map word_anew ws) ≡ some a
+  one-anew : (ws : List (List ℕ)) (a : A) → one_word f ws ≡ Some a → one_word f' (map word_anew ws) ≡ Some a
   unfolding one_word
   one-anew [] a e = absent e
   one-anew (u ∷ []) a e = F.anew u a e
   one-anew (u ∷ v ∷ ws) a e = absent e
 
-  one_same : (ws : List (List ℕ)) (a : A) → one_word f' ws ≡ some a → (one_word f ws ≡ some a) × (map word_anew ws ≡ ws)
+  one_same : (ws : List (List ℕ)) (a : A) → one_word f' ws ≡ Some a → (one_word f ws ≡ Some a) × (map word_anew ws ≡ ws)
   unfolding one_word
   one_same [] a e = absent e
   one_same (u ∷ []) a e = let p = F.same u a e in (p.0, ap (λ (w : List ℕ). w ∷ []) p.1)
@@ -82,14 +81,14 @@ module _ {A : Type 0} {f f' : List ℕ → Option A} (F : WordAlike f f') where
   one-word = record { anew = one-anew; same = one_same }
 
 module _ {A B : Type 0} {f f' : List ℕ → Option A} {g g' : List ℕ → Option B} (F : WordAlike f f') (G : WordAlike g g') where
-  two_anew : (ws : List (List ℕ)) (c : A × B) → two_words f g ws ≡ some c → two_words f' g' (map word_anew ws) ≡ some c
+  two_anew : (ws : List (List ℕ)) (c : A × B) → two_words f g ws ≡ Some c → two_words f' g' (map word_anew ws) ≡ Some c
   unfolding two_words
   two_anew [] c e = absent e
   two_anew (u ∷ []) c e = absent e
   two_anew (u ∷ v ∷ []) c e = let p = both_some (f u) (g v) c e in ap₂ pair_of_options (F.anew u c.0 p.0) (G.anew v c.1 p.1)
   two_anew (u ∷ v ∷ w ∷ ws) c e = absent e
 
-  two_same : (ws : List (List ℕ)) (c : A × B) → two_words f' g' ws ≡ some c → (two_words f g ws ≡ some c) × (map word_anew ws ≡ ws)
+  two_same : (ws : List (List ℕ)) (c : A × B) → two_words f' g' ws ≡ Some c → (two_words f g ws ≡ Some c) × (map word_anew ws ≡ ws)
   unfolding two_words
   two_same [] c e = absent e
   two_same (u ∷ []) c e = absent e
@@ -104,7 +103,7 @@ module _ {A B : Type 0} {f f' : List ℕ → Option A} {g g' : List ℕ → Opti
   two-words = record { anew = two_anew; same = two_same }
 
 module _ {A B C : Type 0} {f f' : List ℕ → Option A} {g g' : List ℕ → Option B} {h h' : List ℕ → Option C} (F : WordAlike f f') (G : WordAlike g g') (I : WordAlike h h') where
-  three_anew : (ws : List (List ℕ)) (d : A × B × C) → three_words f g h ws ≡ some d → three_words f' g' h' (map word_anew ws) ≡ some d
+  three_anew : (ws : List (List ℕ)) (d : A × B × C) → three_words f g h ws ≡ Some d → three_words f' g' h' (map word_anew ws) ≡ Some d
   unfolding three_words
   three_anew [] d e = absent e
   three_anew (u ∷ []) d e = absent e
@@ -114,7 +113,7 @@ module _ {A B C : Type 0} {f f' : List ℕ → Option A} {g g' : List ℕ → Op
       rw (F.anew u d.0 p.0, G.anew v d.1 p.1, I.anew w d.2 p.2)
   three_anew (u ∷ v ∷ w ∷ x ∷ ws) d e = absent e
 
-  three_same : (ws : List (List ℕ)) (d : A × B × C) → three_words f' g' h' ws ≡ some d → (three_words f g h ws ≡ some d) × (map word_anew ws ≡ ws)
+  three_same : (ws : List (List ℕ)) (d : A × B × C) → three_words f' g' h' ws ≡ Some d → (three_words f g h ws ≡ Some d) × (map word_anew ws ≡ ws)
   unfolding three_words
   three_same [] d e = absent e
   three_same (u ∷ []) d e = absent e
@@ -184,11 +183,11 @@ module _ {H B R : Type 0} {L M : Layout H B R} (F : Follows L M) where
   reads_anew (by_line {l} {ls} {c} {d} fits full more is rest) =
       by_line (line-fits l fits) (line_blank l ∙ full) (F.more c ∙ more) (F.later c l d is) (reads_anew rest)
 
-  pub read_anew : (text : List ℕ) (r : R) → read_text L text ≡ yields r → read_text M (text_anew text) ≡ yields r
+  pub read_anew : (text : List ℕ) (r : R) → read_text L text ≡ Ok r → read_text M (text_anew text) ≡ Ok r
   read_anew text r e =
       let t = yield_reads L 1 start (lines text) r e in
       ap (λ (ls : List (List ℕ)). read_lines M 1 start ls) (text-lines text) ∙ reads_yield M (reads_anew t.reads) 1
-      ∙ ap yields (F.result t.last ∙ t.result)
+      ∙ ap Ok (F.result t.last ∙ t.result)
 
   -- Lines that M reads.
   reads_same : {s : State H B} {ls : List (List ℕ)} {b : B} → Reads M s ls b → Reads L s ls b × (lines_in s ls ≡ ls)
@@ -212,8 +211,8 @@ module _ {H B R : Type 0} {L M : Layout H B R} (F : Follows L M) where
       let s = F.later_same c l d is in
       (by_line fits full (sym (F.more c) ∙ more) s.0 r.0, ap₂ (λ (k : List ℕ) (ks : List (List ℕ)). k ∷ ks) s.1 r.1)
 
-  pub read_same : (text : List ℕ) (r : R) → read_text M text ≡ yields r → (read_text L text ≡ yields r) × (text_anew text ≡ text)
+  pub read_same : (text : List ℕ) (r : R) → read_text M text ≡ Ok r → (read_text L text ≡ Ok r) × (text_anew text ≡ text)
   read_same text r e =
       let t = yield_reads M 1 start (lines text) r e in
       let w = reads_same t.reads in
-      (reads_yield L w.0 1 ∙ ap yields (sym (F.result t.last) ∙ t.result), text_same text w.1)
+      (reads_yield L w.0 1 ∙ ap Ok (sym (F.result t.last) ∙ t.result), text_same text w.1)

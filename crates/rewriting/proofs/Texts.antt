@@ -1,9 +1,9 @@
 -- Each sort of text: what the old rules take, the new ones take anew, with the same result; and what the new ones take is left as it is, where its numbers
 -- are in the old range.
+use Rattle.std.specs.Prelude.{Option, None, Some, option_map, Ok}
 use mathlib.Core.Path.{◌≡◌, refl, sym, ap, ◌∙◌}
 use mathlib.Core.Bool.{Bool, true, false, cond, not, ◌&&◌}
 use mathlib.Core.List.{List, [], ◌∷◌, ◌++◌}
-use mathlib.Core.Option.{Option, none, some, map}
 use Prim.Native.Nat.{ℕ}
 use native.Mathlib.Omega.{arith}
 use lib.Dec.{eqb}
@@ -14,7 +14,7 @@ use Rattle.graph.specs.declared.Kind.{Kind}
 use Rattle.graph.specs.declared.Kind.TheVariants.{Bipartite, General}
 use Rattle.graph.specs.declared.Fault.TheVariants.{TextLength, Header, LentLength, Sizes}
 use Rattle.graph.specs.Limits.{most_edges}
-use Rattle.graph.specs.Refusal.{yields, Test, once, passing}
+use Rattle.graph.specs.Refusal.{Test, once, passing}
 use Rattle.graph.specs.Graph.{Graph, up_to}
 use Rattle.graph.specs.Tests.{graph_lengths, graph_tests}
 use Rattle.graph.proofs.Passing.{zero_one, passes, pass, passes_split, passes_join}
@@ -60,10 +60,10 @@ header-comment ks (x ∷ l) h =
 
 -- ---- a line by what is read of its words
 
-module _ {A B : Type 0} {f g : List (List ℕ) → Option A} (W : WordsAlike f g) (step : Option A → Step B) (b : B) (refused : step none ≡ goes b → ⊥) where
-  read_some : (o : Option A) → step o ≡ goes b → (a : A) × (o ≡ some a)
-  read_some none e = absurd (refused e)
-  read_some (some a) e = (a, refl)
+module _ {A B : Type 0} {f g : List (List ℕ) → Option A} (W : WordsAlike f g) (step : Option A → Step B) (b : B) (refused : step None ≡ goes b → ⊥) where
+  read_some : (o : Option A) → step o ≡ goes b → (a : A) × (o ≡ Some a)
+  read_some None e = absurd (refused e)
+  read_some (Some a) e = (a, refl)
 
   pub line-anew : (l : List ℕ) → step (f (words l)) ≡ goes b → step (g (words (line_anew l))) ≡ goes b
   line-anew l e =
@@ -91,18 +91,18 @@ one_of_two {A} ks ms l x y z w e ne = go (header ks l) refl (header ms l) refl e
     go false is false is' e = absurd (ne e)
 
 mapped_words : {A B : Type 0} (k : A → B) {f g : List (List ℕ) → Option A} → WordsAlike f g
-    → WordsAlike (λ ws. map k (f ws)) (λ ws. map k (g ws))
+    → WordsAlike (λ ws. option_map k (f ws)) (λ ws. option_map k (g ws))
 mapped_words {A} {B} k {f} {g} W = record {
-  anew = λ ws b e. let r = taken (f ws) b e in ap (λ (o : Option A). map k o) (W.anew ws r.0 r.1) ∙ r.2;
+  anew = λ ws b e. let r = taken (f ws) b e in ap (λ (o : Option A). option_map k o) (W.anew ws r.0 r.1) ∙ r.2;
   same = λ ws b e.
       let r = taken (g ws) b e in
       let s = W.same ws r.0 r.1 in
-      (ap (λ (o : Option A). map k o) s.0 ∙ r.2, s.1);
+      (ap (λ (o : Option A). option_map k o) s.0 ∙ r.2, s.1);
 }
   where
-    taken : (o : Option A) (b : B) → map k o ≡ some b → (a : A) × (o ≡ some a) × (some (k a) ≡ some b)
-    taken none b e = zero_one (cc)
-    taken (some a) b e = (a, refl, e)
+    taken : (o : Option A) (b : B) → option_map k o ≡ Some b → (a : A) × (o ≡ Some a) × (Some (k a) ≡ Some b)
+    taken None b e = zero_one (cc)
+    taken (Some a) b e = (a, refl, e)
 
 edges-alike : (field : Field) → WordsAlike (edge_on Old field) (edge_on New field)
 edges-alike Field.Integer = three-words kept_naturals kept_naturals kept_integers
@@ -160,10 +160,10 @@ subgraph_follows g = record {
 }
   where
     headed : (l : List ℕ) (o : Option Kind) → subgraph_kind l ≡ o → (h : Unit {0}) → subgraph_header g o ≡ goes h → comment_line l ≡ true
-    headed l none is h e = zero_one (cc)
-    headed l (some kind) is h e =
+    headed l None is h e = zero_one (cc)
+    headed l (Some kind) is h e =
         one_of_two (bytes "matrix" ∷ bytes "coordinate" ∷ bytes "pattern" ∷ bytes "general" ∷ [])
-        (bytes "matrix" ∷ bytes "coordinate" ∷ bytes "pattern" ∷ bytes "symmetric" ∷ []) l (some Bipartite) (some General) none (some kind) is
+        (bytes "matrix" ∷ bytes "coordinate" ∷ bytes "pattern" ∷ bytes "symmetric" ∷ []) l (Some Bipartite) (Some General) None (Some kind) is
         (λ q. zero_one (cc))
 
 -- ---- the readers, with their tests
@@ -176,8 +176,8 @@ module _ {H B R : Type 0} {L M : Layout H B R} (F : Follows L M) (ts : List Test
   fits_anew : text_fits text ≡ true → text_fits (text_anew text) ≡ true
   fits_anew h = le-leb (length (text_anew text)) 32768 (omega (arith, text_length text, leb-true (length text) 32768 h))
 
-  pub reader_anew : passing (ts ++ length_test text) (read_text L text) ≡ yields r →
-      passing (ts ++ length_test (text_anew text)) (read_text M (text_anew text)) ≡ yields r
+  pub reader_anew : passing (ts ++ length_test text) (read_text L text) ≡ Ok r →
+      passing (ts ++ length_test (text_anew text)) (read_text M (text_anew text)) ≡ Ok r
   reader_anew e =
       let p = passes (ts ++ length_test text) (read_text L text) r e in
       let q = passes_split ts (length_test text) p.0 in
@@ -185,8 +185,8 @@ module _ {H B R : Type 0} {L M : Layout H B R} (F : Follows L M) (ts : List Test
       (read_text M (text_anew text))
       ∙ read_anew F text r p.1
 
-  pub reader_same : passing (ts ++ length_test text) (read_text M text) ≡ yields r →
-      (passing (ts ++ length_test text) (read_text L text) ≡ yields r) × (text_anew text ≡ text)
+  pub reader_same : passing (ts ++ length_test text) (read_text M text) ≡ Ok r →
+      (passing (ts ++ length_test text) (read_text L text) ≡ Ok r) × (text_anew text ≡ text)
   reader_same e =
       let p = passes (ts ++ length_test text) (read_text M text) r e in
       let s = read_same F text r p.1 in
@@ -196,11 +196,11 @@ module _ (field : Field) (r c w : ℕ) (text : List ℕ) (g : Graph) where
   abbrev graph_lent : List Test
   graph_lent = once LentLength (eqb r most_edges && eqb c most_edges && eqb w most_edges) ∷ []
 
-  pub graph_anew : read_graph_by Old field r c w text ≡ yields g → read_graph_by New field r c w (text_anew text) ≡ yields g
+  pub graph_anew : read_graph_by Old field r c w text ≡ Ok g → read_graph_by New field r c w (text_anew text) ≡ Ok g
   unfolding read_graph_by
   graph_anew e = reader_anew (graph_follows field) graph_lent text g e
 
-  pub graph_same : read_graph_by New field r c w text ≡ yields g → (read_graph_by Old field r c w text ≡ yields g) × (text_anew text ≡ text)
+  pub graph_same : read_graph_by New field r c w text ≡ Ok g → (read_graph_by Old field r c w text ≡ Ok g) × (text_anew text ≡ text)
   unfolding read_graph_by
   graph_same e = reader_same (graph_follows field) graph_lent text g e
 
@@ -208,15 +208,15 @@ module _ (what : Numbers) (count n : ℕ) (text : List ℕ) (zs : List ℤ) wher
   abbrev numbers_lent : List Test
   numbers_lent = once LentLength (eqb n count) ∷ once Sizes (up_to (most_numbers_by Old) count) ∷ []
 
-  pub numbers_anew : read_numbers_by Old what count n text ≡ yields zs → read_numbers_by New what count n (text_anew text) ≡ yields zs
+  pub numbers_anew : read_numbers_by Old what count n text ≡ Ok zs → read_numbers_by New what count n (text_anew text) ≡ Ok zs
   unfolding read_numbers_by
   numbers_anew e =
       numbers_alike New Old New what what count (number_reader_tests_by Old count n (text_anew text)) (text_anew text) zs (λ k l. old_is_new what (get_or zs k (pos 0)))
       (reader_anew (numbers_follow Old what count) numbers_lent text zs e)
 
   -- Numbers in the old range.
-  pub numbers_same : AlsoIn New what Old what zs → read_numbers_by New what count n text ≡ yields zs →
-      (read_numbers_by Old what count n text ≡ yields zs) × (text_anew text ≡ text)
+  pub numbers_same : AlsoIn New what Old what zs → read_numbers_by New what count n text ≡ Ok zs →
+      (read_numbers_by Old what count n text ≡ Ok zs) × (text_anew text ≡ text)
   unfolding read_numbers_by
   numbers_same w e =
       reader_same (numbers_follow Old what count) numbers_lent text zs
@@ -226,10 +226,10 @@ module _ (g : Graph) (n : ℕ) (text : List ℕ) (x : List ℕ) where
   abbrev subgraph_lent : List Test
   subgraph_lent = once LentLength (graph_lengths g && eqb n g.edges) ∷ graph_tests g
 
-  pub subgraph_anew : read_subgraph_by Old g n text ≡ yields x → read_subgraph_by New g n (text_anew text) ≡ yields x
+  pub subgraph_anew : read_subgraph_by Old g n text ≡ Ok x → read_subgraph_by New g n (text_anew text) ≡ Ok x
   unfolding read_subgraph_by
   subgraph_anew e = reader_anew (subgraph_follows g) subgraph_lent text x e
 
-  pub subgraph_same : read_subgraph_by New g n text ≡ yields x → (read_subgraph_by Old g n text ≡ yields x) × (text_anew text ≡ text)
+  pub subgraph_same : read_subgraph_by New g n text ≡ Ok x → (read_subgraph_by Old g n text ≡ Ok x) × (text_anew text ≡ text)
   unfolding read_subgraph_by
   subgraph_same e = reader_same (subgraph_follows g) subgraph_lent text x e

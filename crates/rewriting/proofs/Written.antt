@@ -1,8 +1,8 @@
 -- A number has one way to be written, by the new rules: as the writer writes it. By the old rules it may have others.
+use Rattle.std.specs.Prelude.{Option, None, Some, option_map}
 use mathlib.Core.Path.{◌≡◌, refl, sym, ap, ◌∙◌}
 use mathlib.Core.Bool.{Bool, true, false, cond}
 use mathlib.Core.List.{List, [], ◌∷◌, ◌++◌, append-nil}
-use mathlib.Core.Option.{Option, none, some, map}
 use Prim.Native.Nat.{ℕ, zero, suc, ◌+◌, ◌*◌, ◌-◌, ◌/◌, ◌%◌, ◌^◌, ◌≤◌, ◌<◌}
 use native.Mathlib.Omega.{arith}
 use lib.Dec.{eqb}
@@ -17,7 +17,7 @@ use Rattle.layout.proofs.Digits.{absent, digit-in, after_digit, after_end, after
 use Rattle.readback.proofs.Digits.{decimal-short, decimal-long, decimal-few, number_back, numeral-first, integer-plain, plain_back, minus_back}
 
 -- Digits that are written after those of a number other than 0 make the digits of the whole.
-after_written : (ds : List ℕ) (n m : ℕ) → 1 ≤ n → m < 10 ^ 9 → digits_after n ds ≡ some m → decimal n ++ ds ≡ decimal m
+after_written : (ds : List ℕ) (n m : ℕ) → 1 ≤ n → m < 10 ^ 9 → digits_after n ds ≡ Some m → decimal n ++ ds ≡ decimal m
 after_written [] n m h k e = append-nil (decimal n) ∙ ap (λ (j : ℕ). decimal j) (after_end n e)
 after_written (d ∷ ds) n m h k e =
     let w = after_digit n d ds e in
@@ -63,11 +63,11 @@ numeral-written (x ∷ y ∷ w) n p N =
     ∙ after_written (y ∷ w) a n m (numeral-small N) (after_digit 0 x (y ∷ w) N.digits).1
 
 -- By the new rules a size or an index is a numeral without a leading zero.
-natural-new : (w : List ℕ) (n : ℕ) → natural New w ≡ some n → (padded w ≡ false) × Numeral w n
+natural-new : (w : List ℕ) (n : ℕ) → natural New w ≡ Some n → (padded w ≡ false) × Numeral w n
 unfolding natural
 natural-new w n e = go (padded w) refl e
   where
-    go : (b : Bool) → padded w ≡ b → cond b none (numeral w) ≡ some n → (padded w ≡ false) × Numeral w n
+    go : (b : Bool) → padded w ≡ b → cond b None (numeral w) ≡ Some n → (padded w ≡ false) × Numeral w n
     go true is e = absent e
     go false is e = (is, numeral-is w n e)
 
@@ -83,22 +83,22 @@ pub data Way : List ℕ → ℤ → Type 0 where
   minus : {w : List ℕ} {n : ℕ} {z : ℤ} → Numeral w n → z ≡ neg_ℤ (pos n) → Way (45 ∷ w) z
   plain : {w : List ℕ} {n : ℕ} → Numeral w n → Way w (pos n)
 
-mapped : {A B : Type 0} (f : A → B) (o : Option A) (b : B) → map f o ≡ some b → (a : A) × (o ≡ some a) × (b ≡ f a)
-mapped f none b e = absent e
-mapped f (some a) b e = (a, refl, let q : b ≡ f a = cc in q)
+mapped : {A B : Type 0} (f : A → B) (o : Option A) (b : B) → option_map f o ≡ Some b → (a : A) × (o ≡ Some a) × (b ≡ f a)
+mapped f None b e = absent e
+mapped f (Some a) b e = (a, refl, let q : b ≡ f a = cc in q)
 
-pub old_way : (w : List ℕ) (z : ℤ) → integer Old w ≡ some z → Way w z
+pub old_way : (w : List ℕ) (z : ℤ) → integer Old w ≡ Some z → Way w z
 unfolding integer
 old_way [] z e = absent e
 old_way (x ∷ w) z e = go (eqb x 43) refl (eqb x 45) refl e
   where
-    by_itself : map pos (natural Old (x ∷ w)) ≡ some z → Way (x ∷ w) z
+    by_itself : option_map pos (natural Old (x ∷ w)) ≡ Some z → Way (x ∷ w) z
     by_itself e =
         let m = mapped pos (natural Old (x ∷ w)) z e in
         rw m.2 (plain (numeral-is (x ∷ w) m.0 (sym (natural-old (x ∷ w)) ∙ m.1)))
 
     go : (a : Bool) → eqb x 43 ≡ a → (b : Bool) → eqb x 45 ≡ b →
-        cond a (map pos (natural Old w)) (cond b (map (λ n. neg_ℤ (pos n)) (natural Old w)) (map pos (natural Old (x ∷ w)))) ≡ some z →
+        cond a (option_map pos (natural Old w)) (cond b (option_map (λ n. neg_ℤ (pos n)) (natural Old w)) (option_map pos (natural Old (x ∷ w)))) ≡ Some z →
         Way (x ∷ w) z
     go true is b is' e =
         let m = mapped pos (natural Old w) z e in
@@ -109,7 +109,7 @@ old_way (x ∷ w) z e = go (eqb x 43) refl (eqb x 45) refl e
     go false is false is' e = by_itself e
 
 -- What the old rules take is read again, as it is written, by the new ones, and is no longer than it was.
-pub old_read : {w : List ℕ} {z : ℤ} → Way w z → integer New (signed z) ≡ some z
+pub old_read : {w : List ℕ} {z : ℤ} → Way w z → integer New (signed z) ≡ Some z
 old_read (plus N) = plain_back _ (numeral-small N)
 old_read (minus {n = zero} N is) = rw is (plain_back 0 (numeral-small N))
 old_read (minus {n = suc n} N is) = rw is (minus_back n (numeral-small N))
@@ -122,43 +122,43 @@ old_long (minus {n = suc n} N is) = rw is (omega (arith, numeral-long N))
 old_long (plain N) = numeral-long N
 
 -- A size or an index, by itself.
-pub natural-read : (w : List ℕ) (n : ℕ) → natural Old w ≡ some n → (integer Old w ≡ some (pos n)) × (natural New (decimal n) ≡ some n)
+pub natural-read : (w : List ℕ) (n : ℕ) → natural Old w ≡ Some n → (integer Old w ≡ Some (pos n)) × (natural New (decimal n) ≡ Some n)
 natural-read w n e =
     let N = numeral-is w n (sym (natural-old w) ∙ e) in
-    (integer-plain Old w n N ∙ ap (λ (o : Option ℕ). map pos o) e, number_back n (numeral-small N))
+    (integer-plain Old w n N ∙ ap (λ (o : Option ℕ). option_map pos o) e, number_back n (numeral-small N))
 
 -- What the new rules take is what is written, and the old ones take it too, as the same number.
-pub natural-written : (w : List ℕ) (n : ℕ) → natural New w ≡ some n → (natural Old w ≡ some n) × (w ≡ decimal n)
+pub natural-written : (w : List ℕ) (n : ℕ) → natural New w ≡ Some n → (natural Old w ≡ Some n) × (w ≡ decimal n)
 unfolding natural numeral
 natural-written w n e =
     let N = natural-new w n e in
     (numeral-taken N.1, numeral-written w n N.0 N.1)
   where
-    numeral-taken : Numeral w n → numeral w ≡ some n
+    numeral-taken : Numeral w n → numeral w ≡ Some n
     numeral-taken N = rw (le-leb 1 (length w) N.some_digits, le-leb (length w) 9 N.few_digits) N.digits
 
-pub integer-written : (w : List ℕ) (z : ℤ) → integer New w ≡ some z → (integer Old w ≡ some z) × (w ≡ signed z)
+pub integer-written : (w : List ℕ) (z : ℤ) → integer New w ≡ Some z → (integer Old w ≡ Some z) × (w ≡ signed z)
 unfolding integer
 integer-written [] z e = absent e
 integer-written (x ∷ w) z e = go (eqb x 43) refl (eqb x 45) refl e
   where
-    below : (o : Option ℕ) → natural New w ≡ o → map (λ n. neg_ℤ (pos n)) (above_zero o) ≡ some z →
-        (map (λ n. neg_ℤ (pos n)) (natural Old w) ≡ some z) × (45 ∷ w ≡ signed z)
-    below none is e = absent e
-    below (some zero) is e = absent e
-    below (some (suc n)) is e =
+    below : (o : Option ℕ) → natural New w ≡ o → option_map (λ n. neg_ℤ (pos n)) (above_zero o) ≡ Some z →
+        (option_map (λ n. neg_ℤ (pos n)) (natural Old w) ≡ Some z) × (45 ∷ w ≡ signed z)
+    below None is e = absent e
+    below (Some zero) is e = absent e
+    below (Some (suc n)) is e =
         let p = natural-written w (suc n) is in
-        let f : ◌≡◌ {A = Option ℤ} (some (negsuc n)) (some z) = rw (ne_eqb (suc n) 0 (omega arith)) at e in
+        let f : ◌≡◌ {A = Option ℤ} (Some (negsuc n)) (Some z) = rw (ne_eqb (suc n) 0 (omega arith)) at e in
         let q : negsuc n ≡ z = cc in
         (rw (p.0, q), rw (← q) (ap (λ (l : List ℕ). 45 ∷ l) p.1))
 
     go : (a : Bool) → eqb x 43 ≡ a → (b : Bool) → eqb x 45 ≡ b →
-        cond a none (cond b (map (λ n. neg_ℤ (pos n)) (above_zero (natural New w))) (map pos (natural New (x ∷ w)))) ≡ some z →
-        (cond a (map pos (natural Old w)) (cond b (map (λ n. neg_ℤ (pos n)) (natural Old w)) (map pos (natural Old (x ∷ w)))) ≡ some z)
+        cond a None (cond b (option_map (λ n. neg_ℤ (pos n)) (above_zero (natural New w))) (option_map pos (natural New (x ∷ w)))) ≡ Some z →
+        (cond a (option_map pos (natural Old w)) (cond b (option_map (λ n. neg_ℤ (pos n)) (natural Old w)) (option_map pos (natural Old (x ∷ w)))) ≡ Some z)
         × (x ∷ w ≡ signed z)
     go true is b is' e = absent e
     go false is true is' e = let p = below (natural New w) refl e in (p.0, rw (eqb-true x 45 is') p.1)
     go false is false is' e =
         let m = mapped pos (natural New (x ∷ w)) z e in
         let p = natural-written (x ∷ w) m.0 m.1 in
-        (ap (λ (o : Option ℕ). map pos o) p.0 ∙ ap some (sym m.2), p.1 ∙ ap signed (sym m.2))
+        (ap (λ (o : Option ℕ). option_map pos o) p.0 ∙ ap Some (sym m.2), p.1 ∙ ap signed (sym m.2))

@@ -8,13 +8,12 @@ use Rattle.graph.specs.Graph.{Graph, vertices, first_end}
 use Rattle.method.specs.Method.{level, top_price, top_value, value, Solvable}
 use Rattle.method.specs.Tree.{slack}
 use Rattle.method.specs.Front.{near_exit}
-use Rattle.method.proofs.Tests.{if_less, if_not_less}
 use Rattle.method.proofs.Solvable.{rows_in, first_to, value-most}
 use Rattle.method.proofs.Leading.{lt-or_ge, Back, back, slack-back}
 use Rattle.method.proofs.Grow.{last_in}
 use Rattle.reach.specs.declared.Front.{Front}
 use Rattle.reach.specs.Reach.{ReachedBy}
-use Rattle.scan.specs.Scan.{Spanned, list_stop, Scanning, ColumnScan}
+use Rattle.scan.specs.Scan.{Scanning, ColumnScan}
 use Rattle.scan.proofs.Looking.{looked_at}
 
 module _ {g : Graph} {price used least : ℕ → ℕ} {label₀ dist₀ order₀ label dist order : List ℕ} {f₀ f : Front} {edge : ℕ → ℕ} {start stop k : ℕ}
@@ -88,13 +87,3 @@ scanned l s = record {
   dist_long = s.dist_long;
   order_long = s.order_long;
 }
-
--- The scan starts, under the name that the first place has.
-pub from_start : {g : Graph} {x : List ℕ} {price exit : ℕ → ℕ} {label dist order : List ℕ} {root count : ℕ} {f : Front} {edge : ℕ → ℕ} {start k : ℕ}
-    → start ≡ k → Scanning g x price exit label dist order root count f edge start start → Scanning g x price exit label dist order root count f edge start k
-from_start e s = rw (sym e) s
-
--- Where the list of a vertex stops.
-pub stop_in : {rows : ℕ} {start used : ℕ → ℕ} {places u stop : ℕ} → Spanned rows start used places u → stop ≡ list_stop rows start used u → stop ≤ places
-stop_in {rows} {start} {used} {u = u} s e = ⊎_elim (λ l. omega (arith, e ∙ if_less 0 (start u + used u) l))
-    (λ l. omega (arith, e ∙ if_not_less 0 (start u + used u) l, s.room l)) (lt-or_ge u rows)

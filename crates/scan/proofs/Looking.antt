@@ -17,7 +17,7 @@ use Rattle.method.specs.Tree.{entries, tail, head, slack}
 use Rattle.method.specs.Front.{far, Relaxed, Looked}
 use Rattle.method.proofs.Solvable.{few}
 use Rattle.method.proofs.Leading.{Put, put_set}
-use Rattle.method.proofs.Grow.{Appended, appended_old, appended_new, open_or_settled, not_more, last_in, look_passed, look_reaches, look_ends, relaxed_here, looked_same}
+use Rattle.method.proofs.Grow.{Appended, appended_old, appended_new, open_or_settled, not_more, look_passed, look_reaches, look_ends, relaxed_here, looked_same}
 use Rattle.reach.specs.declared.Front.{Front}
 use Rattle.reach.specs.Reach.{with_reached, advanced, ReachedBy, passes, reaches, ends}
 use Rattle.scan.specs.Scan.{Scanning}
@@ -27,9 +27,6 @@ module _ {g : Graph} {x : List ℕ} {price exit : ℕ → ℕ} {label dist order
   -- The list has a place for one vertex more.
   pub roomy : f.reached ≤ most_vertices
   roomy = omega (arith, not_more c.state, few net)
-
-  pub scanned_in : f.vertex < most_vertices
-  scanned_in = omega (arith, last_in c.state, few net)
 
   -- The numbers after the list of those reached do not count.
   listed_same : (w : ℕ) (i : ℕ) → i < f.reached → entries (set order f.reached w) i ≡ entries order i

@@ -11,41 +11,30 @@ ghost use Rattle.method.specs.Lists.{starts, leasts};
 ghost use Rattle.scan.specs.Scan.{settled_at, Spanned, list_start, list_stop, Scanning, ColumnScan};
 
 use graph::{MOST_VERTICES, Shape};
-use method::{MOST_LISTED, MOST_TABLE};
+use method::{MOST_LISTED, State, Table};
 use reach::Front;
+use std::ops::Range;
 
 // The front once this vertex is settled, at this distance.
 pub fn settled(f: Front, vertex: u32, distance: u32) -> Front
     ensures { result ≡ settled_at f vertex distance }
 {
     Front {
-        goal: f.goal,
-        end: f.end,
-        reached: f.reached,
         vertex,
         distance,
+        ..f
     }
 }
 
-// The places of a list: from start to before stop.
-#[derive(Clone, Copy)]
-pub struct Span {
-    pub start: u32,
-    pub stop: u32,
-}
-
-// Where the chosen edges of vertex u are listed, if it is a column vertex; the list of a row vertex is empty.
-pub fn list_of(rows: u32, table: &[u32; MOST_TABLE], used: &[u32; MOST_VERTICES], u: usize) -> Span
+// The places where the chosen edges of vertex u are listed, if it is a column vertex; the list of a row vertex is empty.
+pub fn list_of(rows: u32, table: &Table, used: &[u32; MOST_VERTICES], u: usize) -> Range<u32>
     requires { Spanned rows (starts table.now) (entries used.now) most_edges u }
-    ensures { (result.start ≡ list_start rows (starts table.now) u) × (result.stop ≡ list_stop rows (starts table.now) (entries used.now) u) }
+    ensures { (result.start ≡ list_start rows (starts table.now) u) × (result.end ≡ list_stop rows (starts table.now) (entries used.now) u) }
 {
     if u < rows as usize {
-        return Span { start: 0, stop: 0 };
-    }
-    let start = table[u];
-    Span {
-        start,
-        stop: start + used[u],
+        0..0
+    } else {
+        table.start[u]..table.start[u] + used[u]
     }
 }
 
@@ -56,34 +45,29 @@ pub fn scan_column(
     column: &[u32],
     weight: &[i32],
     list: &[i32],
-    price: &[u32; MOST_VERTICES],
-    used: &[u32; MOST_VERTICES],
-    table: &[u32; MOST_TABLE],
+    state: &State,
+    table: &Table,
     label: &mut [u32; MOST_VERTICES],
     distance: &mut [u32; MOST_VERTICES],
     order: &mut [u32; MOST_LISTED],
     first: Front,
 ) -> Front
     requires solvable { Solvable (graph_of s row.now column.now weight.now) }
-    requires edges_in_bounds { (s.edges ≤ length list.now) × (first.distance ≤ far) × Spanned s.rows (starts table.now) (entries used.now) s.edges first.vertex }
-    requires column_scan { ColumnScan (graph_of s row.now column.now weight.now) (entries price.now) (entries used.now) (leasts table.now) label.old distance.old order.old first (naturals list.now) (list_start s.rows (starts table.now) first.vertex) (list_stop s.rows (starts table.now) (entries used.now) first.vertex) }
-    ensures scanning { (c : ColumnScan (graph_of s row.now column.now weight.now) (entries price.now) (entries used.now) (leasts table.now) label.old distance.old order.old first (naturals list.now) (list_start s.rows (starts table.now) first.vertex) (list_stop s.rows (starts table.now) (entries used.now) first.vertex)) → Scanning (graph_of s row.now column.now weight.now) c.x (entries price.now) c.exit label.new distance.new order.new c.root c.count result (naturals list.now) (list_start s.rows (starts table.now) first.vertex) (list_stop s.rows (starts table.now) (entries used.now) first.vertex) }
+    requires edges_in_bounds { (s.edges ≤ length list.now) × (first.distance ≤ far) × Spanned s.rows (starts table.now) (entries state.now.used) s.edges first.vertex }
+    requires column_scan { ColumnScan (graph_of s row.now column.now weight.now) (entries state.now.price) (entries state.now.used) (leasts table.now) label.old distance.old order.old first (naturals list.now) (list_start s.rows (starts table.now) first.vertex) (list_stop s.rows (starts table.now) (entries state.now.used) first.vertex) }
+    ensures scanning { (c : ColumnScan (graph_of s row.now column.now weight.now) (entries state.now.price) (entries state.now.used) (leasts table.now) label.old distance.old order.old first (naturals list.now) (list_start s.rows (starts table.now) first.vertex) (list_stop s.rows (starts table.now) (entries state.now.used) first.vertex)) → Scanning (graph_of s row.now column.now weight.now) c.x (entries state.now.price) c.exit label.new distance.new order.new c.root c.count result (naturals list.now) (list_start s.rows (starts table.now) first.vertex) (list_stop s.rows (starts table.now) (entries state.now.used) first.vertex) }
     ensures vertex_value { (result.vertex ≡ first.vertex) × (result.distance ≡ first.distance) }
 {
     let u = first.vertex as usize;
     let d = first.distance;
-    let p = list_of(s.rows, table, used, u);
-    let stop = p.stop;
+    let places = list_of(s.rows, table, &state.used, u);
     let mut f = first;
-    let mut k = p.start;
-    while k < stop {
+    for k in places.start..places.end {
         let e = integers::natural_at(list, k as usize);
         let at = e as usize;
-        let ends = method::ends_at(s, row, column, at);
-        let w = ends.first;
-        let h = d + method::value_at(weight, at) - (price[w] + price[u]);
-        f = reach::look_back(price, used, table, label, distance, order, w, h, e, f);
-        k += 1;
+        let w = method::ends_at(s, row, column, at).first;
+        let h = d + method::value_at(weight, at) - (state.price[w] + state.price[u]);
+        f = reach::look_back(state, table, label, distance, order, w, h, e, f);
     }
     f
 }

@@ -8,11 +8,13 @@ use Rattle.graph.specs.Graph.{Graph, vertices}
 use Rattle.graph.specs.Subgraph.{degree}
 use Rattle.method.specs.Method.{level, Solvable, Good, Rooted}
 use Rattle.method.specs.Front.{far, shut, near_exit, far_exit, root_exit, Exits}
-use Rattle.method.specs.Lists.{Degrees}
+use Rattle.method.specs.declared.Table.{Table}
+use Rattle.method.specs.declared.KeptEdge.{KeptEdge}
+use Rattle.method.specs.Lists.{leasts, mosts, Degrees, Given}
 use Rattle.method.proofs.Tests.{if_less, if_not_less}
 use Rattle.method.proofs.Solvable.{rows_in}
 use Rattle.method.proofs.Leading.{lt-or_ge, if_same, if_other}
-use Rattle.search.specs.Search.{exit_of}
+use Rattle.search.specs.Search.{Known, exit_of}
 
 module _ (rows : ℕ) (price used least most : ℕ → ℕ) (root : ℕ) where
   abbrev exit : ℕ → ℕ
@@ -69,3 +71,25 @@ module _ {g : Graph} {least most : ℕ → ℕ} {x : List ℕ} {price used : ℕ
         let k : most v ≤ used v = omega (arith, h, degrees.each v l) in
         omega (arith, exit_far g.rows price used least most root v r (not_root r), if_not_less 0 shut k, good.high v l);
   }
+
+-- The ways out of all vertices, from what a search is lent and where it starts.
+pub record Ways (g : Graph) (table : Table) (x : List ℕ) (price used : ℕ → ℕ) (root : ℕ) (exit : ℕ → ℕ) : Type 0 where
+  pub own : exit root ≡ root_exit (price root) (used root) (leasts table root)
+  pub near : (v : ℕ) → v < g.rows → v ≢ root → exit v ≡ near_exit (price v) (used v) (leasts table v)
+  pub far : (v : ℕ) → g.rows ≤ v → exit v ≡ far_exit (price v) (used v) (mosts table v)
+  pub gains : (v : ℕ) → g.rows ≤ v → v < vertices g → used v < mosts table v → price v ≤ level
+  pub exits : Exits g (leasts table) (mosts table) x price root exit
+
+pub ways : {g : Graph} {arc : List KeptEdge} {table : Table} {places : ℕ} {x : List ℕ} {price used list : ℕ → ℕ} {root : ℕ} → Given g arc table places →
+    Known g (leasts table) (mosts table) x price used list → Rooted g (leasts table) (mosts table) x price root →
+    Ways g table x price used root (exit_of g.rows price used (leasts table) (mosts table) root)
+ways {g} {table = table} {price = price} {used} {root = root} given known rooted =
+    let good = known.between.good in
+    let degrees = known.between.degrees in
+    record {
+      own = exit_own g.rows price used (leasts table) (mosts table) root;
+      near = exit_near g.rows price used (leasts table) (mosts table) root;
+      far = λ v l. exit_far g.rows price used (leasts table) (mosts table) root v l (λ e. omega (arith, e, rooted.near));
+      gains = may_gain given.net good degrees rooted;
+      exits = exits given.net good degrees rooted;
+    }

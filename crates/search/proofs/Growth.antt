@@ -13,7 +13,8 @@ use Rattle.graph.specs.Graph.{Graph, vertices, first_end, second_end}
 use Rattle.graph.specs.Subgraph.{mark_at, degree}
 use Rattle.graph.specs.Index.{offset}
 use Rattle.graph.proofs.Index.{offset-more}
-use Rattle.method.specs.declared.Tree.{Tree}
+use Rattle.method.specs.declared.Table.{Table}
+use Rattle.method.specs.declared.KeptEdge.{KeptEdge}
 use Rattle.method.specs.Method.{level, top_price, top_value, cost, Solvable, NoneMeets, Good}
 use Rattle.method.specs.Tree.{entries, tail, Ended}
 use Rattle.method.specs.Front.{far, shut, near_exit, far_exit, Exits, SearchState, Relaxed, Looked, Leaving, SearchGrown, AtEnd, Shifted}
@@ -36,7 +37,10 @@ use Rattle.reach.proofs.Picking.{stays}
 use Rattle.scan.proofs.Looking.{roomy, looked_at, skipped}
 use Rattle.dual_step.specs.Step.{Searchable, NearestAt, Settles, Movable}
 use Rattle.search.proofs.Spans as Spans
-use Rattle.search.specs.Search.{Known}
+use Rattle.search.specs.Search.{Known, Finds}
+use Rattle.std.specs.Prelude.{Some, None}
+use Rattle.graph.proofs.Passing.{zero_one}
+use Rattle.method.specs.declared.Tree.{Tree}
 
 -- ---- the start
 
@@ -78,7 +82,7 @@ begun {g} {x} {price} {exit} {label} {order} {goal} {edge} net low label_long or
 
 -- ---- the chosen edges of a column vertex
 
-module _ {g : Graph} {arc table : List ℕ} {places : ℕ} {x : List ℕ} {price used exit list : ℕ → ℕ} {label dist order : List ℕ} {root count : ℕ} {f : Front}
+module _ {g : Graph} {arc : List KeptEdge} {table : Table} {places : ℕ} {x : List ℕ} {price used exit list : ℕ → ℕ} {label dist order : List ℕ} {root count : ℕ} {f : Front}
     {edge : ℕ → ℕ} {from k : ℕ}
     (given : Given g arc table places) (h : Known g (leasts table) (mosts table) x price used list)
     (exits : (v : ℕ) → v < g.rows → v ≢ root → exit v ≡ near_exit (price v) (used v) (leasts table v))
@@ -132,7 +136,7 @@ module _ {g : Graph} {arc table : List ℕ} {places : ℕ} {x : List ℕ} {price
 
 -- What the inner loop keeps before place k: the edges at the places before it were looked at, and of a column vertex those of its list. The base and the last
 -- place are those of the vertex settled last.
-pub record RowScan (g : Graph) (arc table x : List ℕ) (price exit list : ℕ → ℕ) (label dist order : List ℕ) (root count : ℕ) (f : Front) (base last k : ℕ) : Type 0 where
+pub record RowScan (g : Graph) (arc : List KeptEdge) (table : Table) (x : List ℕ) (price exit list : ℕ → ℕ) (label dist order : List ℕ) (root count : ℕ) (f : Front) (base last k : ℕ) : Type 0 where
   pub scan : Scanning g x price exit label dist order root count f (edges arc) (starts table f.vertex) k
   pub back : g.rows ≤ f.vertex → Looked g x price (entries dist) f.goal f.vertex list (start_in g f.vertex) (start_in g f.vertex + degree g x f.vertex)
   pub low : starts table f.vertex ≤ k
@@ -140,7 +144,7 @@ pub record RowScan (g : Graph) (arc table x : List ℕ) (price exit list : ℕ �
   pub last_is : last ≡ cond (ltb f.vertex g.rows) (stops table f.vertex) 0
 
 -- The list of vertex v was scanned, and it is still the one settled last.
-pub row_begun : {g : Graph} {arc table : List ℕ} {places : ℕ} {x : List ℕ} {price used exit list : ℕ → ℕ} {label dist order : List ℕ} {root count v : ℕ} {f : Front}
+pub row_begun : {g : Graph} {arc : List KeptEdge} {table : Table} {places : ℕ} {x : List ℕ} {price used exit list : ℕ → ℕ} {label dist order : List ℕ} {root count v : ℕ} {f : Front}
     {last : ℕ}
     → Given g arc table places → Known g (leasts table) (mosts table) x price used list → f.vertex ≡ v →
     Scanning g x price exit label dist order root count f list (list_start g.rows (starts table) v) (list_stop g.rows (starts table) used v)
@@ -160,7 +164,7 @@ row_begun {g} {x = x} {v = v} given h same s last_is = record {
   last_is = last_is;
 }
 
-module _ {g : Graph} {arc table : List ℕ} {places : ℕ} {x : List ℕ} {price used exit list : ℕ → ℕ} {label dist order : List ℕ} {root count : ℕ} {f : Front}
+module _ {g : Graph} {arc : List KeptEdge} {table : Table} {places : ℕ} {x : List ℕ} {price used exit list : ℕ → ℕ} {label dist order : List ℕ} {root count : ℕ} {f : Front}
     {base last k : ℕ}
     (given : Given g arc table places) (h : Known g (leasts table) (mosts table) x price used list)
     (exits : (v : ℕ) → g.rows ≤ v → exit v ≡ far_exit (price v) (used v) (mosts table v))
@@ -314,12 +318,12 @@ pub record LeftOff (g : Graph) (x : List ℕ) (price exit : ℕ → ℕ) (label 
   pub order_long : length order ≡ most_vertices + 1
 
 -- An end as near as the vertex settled last.
-pub ends_early : {g : Graph} {arc table x : List ℕ} {price exit list : ℕ → ℕ} {label dist order : List ℕ} {root count : ℕ} {f : Front} {base last k : ℕ}
+pub ends_early : {g : Graph} {arc : List KeptEdge} {table : Table} {x : List ℕ} {price exit list : ℕ → ℕ} {label dist order : List ℕ} {root count : ℕ} {f : Front} {base last k : ℕ}
     → RowScan g arc table x price exit list label dist order root count f base last k → f.goal ≡ f.distance →
     LeftOff g x price exit label dist order root count f.goal f.end
 ends_early r e = record { leaving = left-early r.scan.state e; label_long = r.scan.label_long; order_long = r.scan.order_long }
 
-module _ {g : Graph} {arc table x : List ℕ} {price exit list : ℕ → ℕ} {label dist order : List ℕ} {root count : ℕ} {f : Front} {base last k : ℕ}
+module _ {g : Graph} {arc : List KeptEdge} {table : Table} {x : List ℕ} {price exit list : ℕ → ℕ} {label dist order : List ℕ} {root count : ℕ} {f : Front} {base last k : ℕ}
     (net : Solvable g) (r : RowScan g arc table x price exit list label dist order root count f base last k) where
   abbrev now_at : SearchState g x price exit (entries dist) (entries label) (entries order) root count f.reached f.distance f.goal f.end f.vertex
   now_at = r.scan.state
@@ -388,15 +392,15 @@ pub front_as : {g : Graph} {x : List ℕ} {price exit : ℕ → ℕ} {label dist
 front_as e s = rw e s
 
 -- What is left, under the names that it has then.
-pub left_as : {g : Graph} {x : List ℕ} {price exit : ℕ → ℕ} {dist order dist' order' : List ℕ} {t t' : Tree} {root count end : ℕ} {f f' : Front} → order' ≡ order →
-    f' ≡ f → dist' ≡ dist → t' ≡ t → end ≡ f.end → LeftOff g x price exit t.label dist order root count f.goal f.end
-    → LeftOff g x price exit t'.label dist' order' root count f'.goal end
-left_as {g} {x} {price} {exit} {dist} {order} {dist'} {order'} {t} {t'} {root} {count} {end} {f} {f'} a b c d e l =
-    subst (λ z. LeftOff g x price exit t'.label dist' z root count f'.goal end) (sym a)
-    (subst (λ (z : Front). LeftOff g x price exit t'.label dist' order root count z.goal end) (sym b)
-    (subst (λ z. LeftOff g x price exit t'.label z order root count f.goal end) (sym c)
-    (subst (λ (z : Tree). LeftOff g x price exit z.label dist order root count f.goal end) (sym d)
-    (subst (λ z. LeftOff g x price exit t.label dist order root count f.goal z) (sym e) l))))
+pub left_as : {g : Graph} {x : List ℕ} {price exit : ℕ → ℕ} {label dist order label' dist' order' : List ℕ} {root count end : ℕ} {f f' : Front} → order' ≡ order →
+    f' ≡ f → dist' ≡ dist → label' ≡ label → end ≡ f.end → LeftOff g x price exit label dist order root count f.goal f.end
+    → LeftOff g x price exit label' dist' order' root count f'.goal end
+left_as {g} {x} {price} {exit} {label} {dist} {order} {label'} {dist'} {order'} {root} {count} {end} {f} {f'} a b c d e l =
+    subst (λ z. LeftOff g x price exit label' dist' z root count f'.goal end) (sym a)
+    (subst (λ (z : Front). LeftOff g x price exit label' dist' order root count z.goal end) (sym b)
+    (subst (λ z. LeftOff g x price exit label' z order root count f.goal end) (sym c)
+    (subst (λ z. LeftOff g x price exit z dist order root count f.goal end) (sym d)
+    (subst (λ z. LeftOff g x price exit label dist order root count f.goal z) (sym e) l))))
 
 -- ---- the end
 
@@ -428,3 +432,14 @@ module _ {g : Graph} {least most : ℕ → ℕ} {x : List ℕ} {price exit dist 
 
     pub ended : {price' : ℕ → ℕ} → Shifted g.rows order dist price price' count goal → Ended g least most x price price' label root end
     ended shift = finish net good root_near exits (Leaves.grown l) at-end (Leaves.moved l shift)
+
+-- What is answered: no tree where no path ends, and the tree that has the end.
+module _ {g : Graph} {least most : ℕ → ℕ} {x : List ℕ} {start price : ℕ → ℕ} {root : ℕ} where
+  pub finds-none : NoneMeets g least most → Finds g least most x start price root None
+  finds-none n = record { found = λ t e. zero_one (cc); none = λ e. n }
+
+  pub finds-end : (t : Tree) → Ended g least most x start price (entries t.label) root t.end → Finds g least most x start price root (Some t)
+  finds-end t ended = record {
+    found = λ u e. let same : ◌≡◌ {A = Tree} t u = cc in subst (λ (z : Tree). Ended g least most x start price (entries z.label) root z.end) same ended;
+    none = λ e. zero_one (cc);
+  }

@@ -1,20 +1,20 @@
 -- A path that was found is flipped and counted: what the walk back may assume, and what is kept.
-use Prim.Native.Nat.{ℕ, ◌+◌, ◌-◌, ◌≤◌, ◌<◌}
+use Prim.Native.Nat.{ℕ, ◌≤◌, ◌<◌}
 use mathlib.Core.Path.{◌≡◌, sym, ap, ◌∙◌}
 use mathlib.Core.Logic.{⊎_elim}
 use mathlib.Core.List.{List, []}
 use native.Mathlib.Omega.{arith}
 use native.Mathlib.Decide.{ℕ_discrete}
 use lib.IntN.{ℤ}
-use lib.ListN.{length, get_or, set, length-set}
-use lib.Seq.{get_or-set_same, get_or-set_other}
+use lib.ListN.{length}
 use Rattle.integers.specs.Sum.{is}
-use Rattle.integers.proofs.Sum.{is_same, is-other, is_le}
+use Rattle.integers.proofs.Sum.{is_same}
 use Rattle.graph.specs.Limits.{most_vertices, greatest_bound}
 use Rattle.graph.specs.declared.Shape.{Shape}
 use Rattle.graph.specs.Graph.{Graph, graph_of, vertices}
 use Rattle.graph.specs.Subgraph.{degree}
-use Rattle.graph.proofs.Counting.{add_at}
+use Rattle.method.specs.declared.Table.{Table}
+use Rattle.method.specs.declared.KeptEdge.{KeptEdge}
 use Rattle.method.specs.Method.{Solvable, Labels, Augmented, Sought}
 use Rattle.method.specs.Tree.{entries, naturals, Ended}
 use Rattle.method.specs.Lists.{starts, nowhere, Listing, Given, Between}
@@ -26,59 +26,6 @@ use Rattle.scan.specs.Scan.{list_stop}
 use Rattle.augment.specs.Augment.{Walkable, Ranked, Relistable}
 use Rattle.search.proofs.Spans as Spans
 use Rattle.search.specs.Search.{Countable, PathCounted}
-
--- ---- counting
-
-one_more : (d : List ℕ) (i v : ℕ) → i < length d → get_or (set d i (get_or d i 0 + 1)) v 0 ≡ get_or d v 0 + is i v
-one_more d i v l = omega (arith, add_at d i 1 v l)
-
-one_less : (d : List ℕ) (i v : ℕ) → i < length d → 0 < get_or d i 0 → get_or (set d i (get_or d i 0 - 1)) v 0 + is i v ≡ get_or d v 0
-one_less d i v l some = elim (ℕ_discrete i v) [
-  | yes e ↦
-      omega (
-        arith,
-        ap (λ k. get_or (set d i (get_or d i 0 - 1)) k 0) e,
-        get_or-set_same d i (get_or d i 0 - 1) 0 l,
-        ap (λ k. get_or d k 0) e,
-        ap (is i) (sym e),
-        is_same i,
-      )
-  | no e ↦ omega (arith, get_or-set_other d i v (get_or d i 0 - 1) 0 (λ s. e (sym s)), is-other i v e)
-]
-
--- The root is counted, and then the end.
-module _ (d : List ℕ) {rows root v : ℕ} (p : Countable rows root v (entries d)) (long : length d ≡ most_vertices) where
-  abbrev counted : List ℕ
-  counted = set d root (get_or d root 0 + 1)
-
-  counted_long : length counted ≡ most_vertices
-  counted_long = length-set d root (get_or d root 0 + 1) ∙ long
-
-  v_inside : v < length counted
-  v_inside = omega (arith, counted_long, p.end_in)
-
-  root_counted : (h : ℕ) → get_or counted h 0 ≡ get_or d h 0 + is root h
-  root_counted h = one_more d root h (omega (arith, long, p.root_in))
-
-  pub end_few : get_or counted v 0 ≤ greatest_bound + 1
-  end_few = omega (arith, root_counted v, p.end_few, is_le root v)
-
-  pub end_some : v < rows → 1 ≤ get_or counted v 0
-  end_some low = omega (arith, root_counted v, p.some low)
-
-  pub row_counted : v < rows →
-      PathCounted rows root v (entries d) (entries (set counted v (get_or counted v 0 - 1))) × (length (set counted v (get_or counted v 0 - 1)) ≡ most_vertices)
-  row_counted low = (
-    record { from_row = λ l h. omega (arith, one_less counted v h v_inside (end_some low), root_counted h); from_column = λ l. absurd (omega arith) },
-    length-set counted v (get_or counted v 0 - 1) ∙ counted_long,
-  )
-
-  pub column_counted : rows ≤ v →
-      PathCounted rows root v (entries d) (entries (set counted v (get_or counted v 0 + 1))) × (length (set counted v (get_or counted v 0 + 1)) ≡ most_vertices)
-  column_counted high = (
-    record { from_row = λ l. absurd (omega arith); from_column = λ l h. omega (arith, one_more counted v h v_inside, root_counted h) },
-    length-set counted v (get_or counted v 0 + 1) ∙ counted_long,
-  )
 
 -- ---- the walk back
 
@@ -115,7 +62,7 @@ module _ {s : Shape} {row column : List ℕ} {weight : List ℤ} {least most : �
   ranked = record { rank = e.rank; walkable = walkable }
 
 -- The lists before the walk: where the end is a column vertex, its label is an edge that is not chosen.
-pub relistable : {s : Shape} {row column arc table : List ℕ} {weight : List ℤ} {least most : ℕ → ℕ} {x : List ℕ} {start price used label : ℕ → ℕ} {root v gap : ℕ}
+pub relistable : {s : Shape} {row column : List ℕ} {arc : List KeptEdge} {table : Table} {weight : List ℤ} {least most : ℕ → ℕ} {x : List ℕ} {start price used label : ℕ → ℕ} {root v gap : ℕ}
     (list : List ℤ) (place : List ℕ) → Given (graph_of s row column weight) arc table (length list) →
     Between (graph_of s row column weight) least most x start used (naturals list) (entries place)
     → Ended (graph_of s row column weight) least most x start price label root v → s.edges ≤ length place →

@@ -6,13 +6,15 @@ use native.Mathlib.Omega.{arith}
 use Rattle.graph.specs.Graph.{Graph, vertices}
 use Rattle.graph.specs.Subgraph.{degree}
 use Rattle.graph.proofs.Index.{offset-more, offset-next}
+use Rattle.method.specs.declared.Table.{Table}
+use Rattle.method.specs.declared.KeptEdge.{KeptEdge}
 use Rattle.method.specs.Lists.{starts, Given, start_in, Between}
 use Rattle.method.proofs.Tests.{if_not_less}
 use Rattle.method.proofs.Solvable.{few}
 use Rattle.method.proofs.Lists.{columns}
 use Rattle.scan.specs.Scan.{Spanned, list_start, list_stop}
 
-module _ {g : Graph} {arc table : List ℕ} {places : ℕ} {least most : ℕ → ℕ} {x : List ℕ} {price used list place : ℕ → ℕ} {u : ℕ}
+module _ {g : Graph} {arc : List KeptEdge} {table : Table} {places : ℕ} {least most : ℕ → ℕ} {x : List ℕ} {price used list place : ℕ → ℕ} {u : ℕ}
     (given : Given g arc table places) (b : Between g least most x price used list place) (inside : u < vertices g) where
   -- The list of a column vertex starts where it should, and has as many places as the vertex has chosen edges.
   module _ (r : g.rows ≤ u) where

@@ -1,10 +1,11 @@
 -- How far each vertex is from a way out, what a search finds and leaves, and how a path that was flipped is counted.
-use Rattle.std.specs.Prelude.{ℕ, ◌+◌, ◌≤◌, ◌<◌, ◌≡◌, Bool, true, false, cond, List, eqb, ltb}
+use Rattle.std.specs.Prelude.{ℕ, ◌+◌, ◌≤◌, ◌<◌, ◌≡◌, Bool, true, false, cond, List, eqb, ltb, Option, Some, None}
 use Rattle.integers.specs.Sum.{is}
 use Rattle.graph.specs.Limits.{most_vertices, greatest_bound}
 use Rattle.graph.specs.Graph.{Graph}
 use Rattle.method.specs.Method.{NoneMeets, Sought}
-use Rattle.method.specs.Tree.{Ended}
+use Rattle.method.specs.declared.Tree.{Tree}
+use Rattle.method.specs.Tree.{entries, Ended}
 use Rattle.method.specs.Front.{near_exit, far_exit, root_exit}
 use Rattle.method.specs.Lists.{Between}
 
@@ -18,10 +19,10 @@ abbrev pub exit_of : ℕ → (ℕ → ℕ) → (ℕ → ℕ) → (ℕ → ℕ) �
 exit_of rows price used least most root v =
     cond (eqb v root) (root_exit (price v) (used v) (least v)) (cond (ltb v rows) (near_exit (price v) (used v) (least v)) (far_exit (price v) (used v) (most v)))
 
--- A search finds the end of a path, or a number that is no vertex, where no subgraph meets both bounds.
-pub record Finds (g : Graph) (least most : ℕ → ℕ) (x : List ℕ) (start price label : ℕ → ℕ) (root v : ℕ) : Type 0 where
-  pub found : v < most_vertices → Ended g least most x start price label root v
-  pub none : most_vertices ≤ v → NoneMeets g least most
+-- A search finds a tree, which has the end of a path, or none, where no subgraph meets both bounds.
+pub record Finds (g : Graph) (least most : ℕ → ℕ) (x : List ℕ) (start price : ℕ → ℕ) (root : ℕ) (r : Option Tree) : Type 0 where
+  pub found : (t : Tree) → r ≡ Some t → Ended g least most x start price (entries t.label) root t.end
+  pub none : r ≡ None → NoneMeets g least most
 
 -- What a search leaves: where it found a path, what a search is to leave, and all that is kept; where it found none, no subgraph meets both bounds.
 pub record Searched (g : Graph) (least most : ℕ → ℕ) (root : ℕ) (x : List ℕ) (start : ℕ → ℕ) (y : List ℕ) (price used list place : ℕ → ℕ) (r : Bool) : Type 0 where

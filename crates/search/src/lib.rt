@@ -7,12 +7,12 @@ ghost use Rattle.graph.specs.Graph.{graph_of};
 ghost use Rattle.method.specs.Method.{level, top_price, Rooted};
 ghost use Rattle.method.specs.Tree.{entries, naturals};
 ghost use Rattle.method.specs.Front.{far, root_exit};
-ghost use Rattle.method.specs.Lists.{leasts, mosts, Given, Between, Arrays};
+ghost use Rattle.method.specs.Lists.{leasts, mosts, Given, Between};
 ghost use Rattle.search.specs.Search.{Known, Finds, Countable, PathCounted, Searched};
 
 use graph::{MOST_EDGES, MOST_VERTICES, Shape};
 use integers::pick;
-use method::{FAR, HEADS, LEASTS, LEVEL, MOST_ARCS, MOST_LISTED, MOST_TABLE, STOPS, Tree, VALUES};
+use method::{FAR, KeptEdge, LEVEL, MOST_LISTED, State, Table, Tree};
 use reach::Front;
 
 // How far the root is from a way out: it may keep its degree once it has its least.
@@ -23,41 +23,52 @@ fn root_exit(price: u32, used: u32, least: u32) -> u32
     if used < least { FAR } else { price - LEVEL }
 }
 
+// The front at the root, which alone is reached.
+fn at_root(state: &State, table: &Table, root: u32) -> Front
+    requires root_in { root < most_vertices }
+    requires price { (leasts table.now root ≤ entries state.now.used root → level ≤ entries state.now.price root) × (entries state.now.price root ≤ top_price) }
+    ensures front { result ≡ record { goal = root_exit (entries state.now.price root) (entries state.now.used root) (leasts table.now root); end = root; reached = 1; vertex = root; distance = 0 } }
+    ensures goal { result.goal ≤ far }
+{
+    let at = root as usize;
+    let goal = root_exit(state.price[at], state.used[at], table.least[at]);
+    Front {
+        goal,
+        end: root,
+        reached: 1,
+        vertex: root,
+        distance: 0,
+    }
+}
+
 // Settles vertices, nearest first, and looks at the edges of each, until no open vertex is nearer than the end of a path; then moves the prices. The list of
-// the vertices reached has the root first. Where no path ends, the end is a number that is no vertex.
+// the vertices reached has the root first. None is answered where no path ends.
 fn find_end(
     s: Shape,
     row: &[u32],
     column: &[u32],
     weight: &[i32],
-    arc: &[u32; MOST_ARCS],
-    table: &[u32; MOST_TABLE],
+    arcs: &[KeptEdge; MOST_EDGES],
+    table: &Table,
     chosen: &[u8],
     list: &[i32],
-    price: &mut [u32; MOST_VERTICES],
-    used: &[u32; MOST_VERTICES],
+    state: &mut State,
     order: &mut [u32; MOST_LISTED],
-) -> Tree
-    requires given { Given (graph_of s row.now column.now weight.now) arc.now table.now (length list.now) }
-    requires known { Known (graph_of s row.now column.now weight.now) (leasts table.now) (mosts table.now) chosen.now (entries price.old) (entries used.now) (naturals list.now) }
-    requires rooted { Rooted (graph_of s row.now column.now weight.now) (leasts table.now) (mosts table.now) chosen.now (entries price.old) (entries order.old 0) }
-    requires price_len { (length price.old ≡ most_vertices) × (length order.old ≡ most_vertices + 1) }
-    ensures finds { Finds (graph_of s row.now column.now weight.now) (leasts table.now) (mosts table.now) chosen.now (entries price.old) (entries price.new) (entries result.label) (entries order.old 0) result.end }
-    ensures price_len_2 { (length price.new ≡ most_vertices) × (length order.new ≡ most_vertices + 1) }
+) -> Option<Tree>
+    requires given { Given (graph_of s row.now column.now weight.now) arcs.now table.now (length list.now) }
+    requires known { Known (graph_of s row.now column.now weight.now) (leasts table.now) (mosts table.now) chosen.now (entries state.old.price) (entries state.old.used) (naturals list.now) }
+    requires rooted { Rooted (graph_of s row.now column.now weight.now) (leasts table.now) (mosts table.now) chosen.now (entries state.old.price) (entries order.old 0) }
+    ensures finds { Finds (graph_of s row.now column.now weight.now) (leasts table.now) (mosts table.now) chosen.now (entries state.old.price) (entries state.new.price) (entries order.old 0) result }
+    ensures used { state.new.used ≡ state.old.used }
 {
     let root = order[0];
-    let at = root as usize;
-    let exit = root_exit(price[at], used[at], table[LEASTS + at]);
-    let mut f = Front {
-        goal: exit,
-        end: root,
-        reached: 1,
-        vertex: root,
-        distance: 0,
-    };
+    let mut f = at_root(state, table, root);
     let mut distance = [FAR; MOST_VERTICES];
-    distance[at] = 0;
-    let mut t = method::unlabelled();
+    distance[root as usize] = 0;
+    let mut tree = Tree {
+        label: [0u32; MOST_VERTICES],
+        end: root as usize,
+    };
     let mut count = 1u32;
     let end = 'search: loop {
         f = scan::scan_column(
@@ -66,39 +77,33 @@ fn find_end(
             column,
             weight,
             list,
-            price,
-            used,
+            state,
             table,
-            &mut t.label,
+            &mut tree.label,
             &mut distance,
             order,
             f,
         );
         let u = f.vertex as usize;
-        let base = f.distance + price[u];
-        let last = pick(u < s.rows as usize, table[STOPS + u], 0);
-        let mut k = table[u];
-        while k < last {
-            let at = k as usize;
-            let e = arc[at];
+        let base = f.distance + state.price[u];
+        let last = pick(u < s.rows as usize, table.stop[u], 0);
+        for k in table.start[u]..last {
+            let kept = arcs[k as usize];
+            let mark = chosen[kept.edge as usize];
             f = reach::look(
-                price,
-                used,
+                state,
                 table,
-                &mut t.label,
+                &mut tree.label,
                 &mut distance,
                 order,
                 base,
-                arc[HEADS + at],
-                arc[VALUES + at],
-                chosen[e as usize],
-                e,
+                kept,
+                mark,
                 f,
             );
             if f.goal == f.distance {
                 break 'search f.end;
             }
-            k += 1;
         }
         let at = dual_step::nearest(&distance, order, count, f.reached, f.goal);
         if at == f.reached {
@@ -108,19 +113,18 @@ fn find_end(
         count += 1;
         f = scan::settled(f, v, distance[v as usize]);
     };
-    let none = f.goal == FAR;
-    if none {
-        return t;
+    if f.goal == FAR {
+        return None;
     }
-    dual_step::move_prices(price, s.rows, order, &distance, count, f.goal);
-    t.end = end as usize;
-    t
+    dual_step::move_prices(&mut state.price, s.rows, order, &distance, count, f.goal);
+    tree.end = end as usize;
+    Some(tree)
 }
 
 // Counts the path from the root to its end: the root has one edge more, and so has a column vertex at the end; a row vertex there has one less.
 fn count_path(used: &mut [u32; MOST_VERTICES], rows: u32, root: usize, end: usize)
-    requires { Countable rows root end (entries used.old) × (length used.old ≡ most_vertices) }
-    ensures { PathCounted rows root end (entries used.old) (entries used.new) × (length used.new ≡ most_vertices) }
+    requires { Countable rows root end (entries used.old) }
+    ensures { PathCounted rows root end (entries used.old) (entries used.new) }
 {
     used[root] += 1;
     if end < rows as usize {
@@ -137,34 +141,38 @@ pub fn search(
     row: &[u32],
     column: &[u32],
     weight: &[i32],
-    arc: &[u32; MOST_ARCS],
-    table: &[u32; MOST_TABLE],
+    arcs: &[KeptEdge; MOST_EDGES],
+    table: &Table,
     chosen: &mut [u8],
     list: &mut [i32],
     place: &mut [u32; MOST_EDGES],
-    price: &mut [u32; MOST_VERTICES],
-    used: &mut [u32; MOST_VERTICES],
+    state: &mut State,
     order: &mut [u32; MOST_LISTED],
 ) -> bool
-    requires given { Given (graph_of s row.now column.now weight.now) arc.now table.now (length list.old) }
-    requires between { Between (graph_of s row.now column.now weight.now) (leasts table.now) (mosts table.now) chosen.old (entries price.old) (entries used.old) (naturals list.old) (entries place.old) }
-    requires rooted { Rooted (graph_of s row.now column.now weight.now) (leasts table.now) (mosts table.now) chosen.old (entries price.old) (entries order.old 0) }
-    requires arrays { Arrays s.edges price.old used.old place.old order.old }
-    ensures searched { Searched (graph_of s row.now column.now weight.now) (leasts table.now) (mosts table.now) (entries order.old 0) chosen.old (entries price.old) chosen.new (entries price.new) (entries used.new) (naturals list.new) (entries place.new) result }
-    ensures arrays_2 { Arrays s.edges price.new used.new place.new order.new }
+    requires given { Given (graph_of s row.now column.now weight.now) arcs.now table.now (length list.old) }
+    requires between { Between (graph_of s row.now column.now weight.now) (leasts table.now) (mosts table.now) chosen.old (entries state.old.price) (entries state.old.used) (naturals list.old) (entries place.old) }
+    requires rooted { Rooted (graph_of s row.now column.now weight.now) (leasts table.now) (mosts table.now) chosen.old (entries state.old.price) (entries order.old 0) }
+    ensures searched { Searched (graph_of s row.now column.now weight.now) (leasts table.now) (mosts table.now) (entries order.old 0) chosen.old (entries state.old.price) chosen.new (entries state.new.price) (entries state.new.used) (naturals list.new) (entries place.new) result }
 {
     let root = order[0] as usize;
-    let t = find_end(
-        s, row, column, weight, arc, table, chosen, list, price, used, order,
-    );
-    let end = t.end;
-    if end >= MOST_VERTICES {
+    let Some(tree) = find_end(
+        s, row, column, weight, arcs, table, chosen, list, state, order,
+    ) else {
         return false;
-    }
-    let p = scan::list_of(s.rows, table, used, end);
+    };
+    let places = scan::list_of(s.rows, table, &state.used, tree.end);
     augment::augment(
-        chosen, list, place, s, row, column, &t.label, root, end, p.stop,
+        chosen,
+        list,
+        place,
+        s,
+        row,
+        column,
+        &tree.label,
+        root,
+        tree.end,
+        places.end,
     );
-    count_path(used, s.rows, root, end);
+    count_path(&mut state.used, s.rows, root, tree.end);
     true
 }

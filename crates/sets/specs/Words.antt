@@ -1,23 +1,24 @@
 -- What odd sets say by their words and by the ends of an edge, as they are tested.
-use Rattle.std.specs.Prelude.{ℕ, ◌+◌, ◌*◌, ◌%◌, Bool, ◌&&◌, ◌||◌, List, eqb}
-use Rattle.graph.specs.Limits.{most_vertices, most_edges}
+use Rattle.std.specs.Prelude.{ℕ, ◌+◌, ◌*◌, ◌≤◌, ◌%◌, Bool, ◌&&◌, ◌||◌, eqb, length}
+use Rattle.graph.specs.Limits.{vertex_words, edge_words}
 use Rattle.graph.specs.Graph.{Graph}
-use Rattle.dual.specs.Sets.{OddSets, bit, one, nothing_above, has_vertex, one_end_inside}
+use Rattle.dual.specs.Sets.{OddSets, odd_sets_of, inside, marked, one, nothing_above, has_vertex, one_end_inside}
+use Rattle.sets.specs.declared.OddSets as declared
 
--- By the words `insides` of all odd sets, vertex v is inside odd set k; by the words `markings`, it marks edge e.
-abbrev pub is_inside : List ℕ → ℕ → ℕ → Bool
-is_inside insides k v = bit insides (most_vertices * k + v)
+-- The marks of lent words, which are those of odd set k and those before it at least.
+abbrev pub marks_of : declared.OddSets → OddSets
+marks_of O = odd_sets_of O.vertices.now O.edges.now
 
-abbrev pub is_marked : List ℕ → ℕ → ℕ → Bool
-is_marked markings k e = bit markings (most_edges * k + e)
+abbrev pub HasSet : OddSets → ℕ → Type 0
+HasSet O k = (vertex_words * k + vertex_words ≤ length O.vertices) × (edge_words * k + edge_words ≤ length O.edges)
 
 -- How many of two ends are inside, as `ends_inside` counts of an edge.
-abbrev pub inside_by : List ℕ → ℕ → ℕ → ℕ → ℕ
-inside_by insides k first second = one (is_inside insides k first) + one (is_inside insides k second)
+abbrev pub inside_by : OddSets → ℕ → ℕ → ℕ → ℕ
+inside_by O k first second = one (inside O k first) + one (inside O k second)
 
 -- Odd set k covers edge e with these ends, as `covers` says.
-abbrev pub covers_by : List ℕ → List ℕ → ℕ → ℕ → ℕ → ℕ → Bool
-covers_by insides markings k e first second = is_marked markings k e || is_inside insides k first && is_inside insides k second
+abbrev pub covers_by : OddSets → ℕ → ℕ → ℕ → ℕ → Bool
+covers_by O k e first second = marked O k e || inside O k first && inside O k second
 
 -- Odd set k, whose load is this, keeps the rules, as `keeps_rules` says.
 abbrev pub keeps_rules_by : Graph → OddSets → ℕ → ℕ → Bool

@@ -1,4 +1,5 @@
 -- What a solved or refused problem leaves is what `solve` writes.
+use Rattle.std.specs.Prelude.{Ok, Err}
 use Prim.Native.Nat.{ℕ, ◌≤◌}
 use mathlib.Core.Path.{◌≡◌, refl, sym, ap, ◌∙◌, subst}
 use mathlib.Core.Logic.{◌≢◌}
@@ -9,25 +10,19 @@ use lib.ListN.{length, take, replicate}
 use lib.Seq.{take_at}
 use borrow.Author.Tests.{ne_eqb}
 use Rattle.graph.specs.declared.Fault.{Fault}
-use Rattle.graph.specs.declared.IndexAnswer.{IndexAnswer}
-use Rattle.graph.specs.declared.IndexAnswer.TheVariants as IndexAnswer
 use Rattle.graph.specs.declared.Refusal.{Refusal}
-use Rattle.graph.specs.Refusal.{Outcome, yields, refuses, told, reported, filled, output}
+use Rattle.graph.specs.Refusal.{Outcome, refuses, reported, filled, output}
 use Rattle.graph.specs.Graph.{Graph, vertices}
 use Rattle.graph.specs.Subgraph.{Optimal}
-use Rattle.graph.specs.Index.{index_numbers, build_index, index_says}
+use Rattle.graph.specs.Index.{index_numbers, build_index}
 use Rattle.graph.specs.Passed.{SizesHold, Passed, MarksHold}
 use Rattle.graph.proofs.Passing.{zero_one}
-use Rattle.graph.proofs.Told.{told_same}
 use Rattle.graph.proofs.Index.{index_fills}
 use Rattle.layout.specs.SubgraphText.{subgraph_text}
-use Rattle.dual.specs.declared.SolveAnswer.{SolveAnswer}
-use Rattle.dual.specs.declared.SolveAnswer.TheVariants as SolveAnswer
-use Rattle.dual.specs.Solve.{Lent, Outputs, solve, solve_says, lent_of, Left}
+use Rattle.dual.specs.Solve.{Lent, Outputs, solve, lent_of, Left}
 use Rattle.duality.proofs.Passed.{solve-passed}
 use Rattle.writer.specs.Written.{Written}
 use Rattle.report.specs.declared.Source.{Source}
-use Rattle.report.specs.declared.Source.TheVariants as Source
 use Rattle.report.specs.Report.{refused_line, line_room, Composed}
 use Rattle.report.specs.Programs.{Run, has, ends, came_from, and_then, written, Problem, problem_in, lent_for, solve_indexed, solve_problem, solve_output, subgraph_room}
 use Rattle.report.specs.Programs.{SolveComposed}
@@ -63,21 +58,21 @@ pub line_kept : {text before after : List ℕ} {r : ℕ} → length before ≡ 1
 line_kept long = exact_line 16384 long (omega arith)
 
 -- The solver is lent what the graph gives, and has answered a.
-module _ (g : Graph) (bound : List ℤ) (index : List ℕ) {L : Lent} (lent : L ≡ lent_for g) {a : SolveAnswer} (says : solve_says a ≡ told (solve g bound index L)) where
-  outcome : {b : SolveAnswer} (o : Outcome (Unit {0})) → a ≡ b → solve_says b ≡ told o → solve_indexed g bound index ≡ came_from Source.Input o
+module _ (g : Graph) (bound : List ℤ) (index : List ℕ) {L : Lent} (lent : L ≡ lent_for g) {a : (Outcome (Unit {0}))} (says : a ≡ solve g bound index L) where
+  outcome : {b : (Outcome (Unit {0}))} (o : Outcome (Unit {0})) → a ≡ b → b ≡ o → solve_indexed g bound index ≡ came_from Source.Input o
   outcome o is tells =
       ap (λ (l : Lent). came_from Source.Input (solve g bound index l)) (sym lent)
-      ∙ ap (came_from Source.Input) (told_same (solve g bound index L) o (sym says ∙ ap solve_says is ∙ tells))
+      ∙ ap (came_from Source.Input) ((sym says ∙ is ∙ tells))
 
   -- What is written stands for what the solver says.
-  ends_with : {b : SolveAnswer} (o : Outcome (Unit {0})) (x : List ℕ) {before after : List ℕ} {r : ℕ} → a ≡ b → solve_says b ≡ told o
+  ends_with : {b : (Outcome (Unit {0}))} (o : Outcome (Unit {0})) (x : List ℕ) {before after : List ℕ} {r : ℕ} → a ≡ b → b ≡ o
       → Composed subgraph_room (written (λ h. subgraph_text h x) (and_then (came_from Source.Input o) (λ u. has g))) before after r
       → Composed subgraph_room (written (λ h. subgraph_text h x) (and_then (solve_indexed g bound index) (λ u. has g))) before after r
   ends_with o x {before} {after} {r} is tells h =
       subst (λ (s : Run (Unit {0})). Composed subgraph_room (written (λ h. subgraph_text h x) (and_then s (λ u. has g))) before after r)
       (sym (outcome o is tells)) h
 
-  pub refusal_left : {f : Refusal} {before after : List ℕ} {r : ℕ} → a ≡ SolveAnswer.Refused f → length before ≡ 16384
+  pub refusal_left : {f : Refusal} {before after : List ℕ} {r : ℕ} → a ≡ Err f → length before ≡ 16384
       → Composed line_room (refused_line Source.Input f.fault f.place) before after r → Solution g bound (solve_indexed g bound index) before after r
   refusal_left {f} is long h = record {
     chosen = [];
@@ -86,12 +81,12 @@ module _ (g : Graph) (bound : List ℤ) (index : List ℕ) {L : Lent} (lent : L 
   }
 
   -- It has chosen x.
-  module _ (is : a ≡ SolveAnswer.Solved) {S : Outputs} {workspace : List ℤ} (left : Left g bound index L S workspace) where
+  module _ (is : a ≡ (Ok tt)) {S : Outputs} {workspace : List ℤ} (left : Left g bound index L S workspace) where
     abbrev x : List ℕ
     x = S.chosen
 
-    accepts : solve g bound index L ≡ yields tt
-    accepts = told_same (solve g bound index L) (yields tt) (sym says ∙ ap solve_says is)
+    accepts : solve g bound index L ≡ Ok tt
+    accepts = (sym says ∙ is)
 
     pub solved_passed : Passed g
     solved_passed = (solve-passed g bound index L accepts).passed
@@ -119,7 +114,7 @@ module _ (g : Graph) (bound : List ℤ) (index : List ℕ) {L : Lent} (lent : L 
       part-written {after = after} {r = r} long w = record {
         chosen = x;
         optimal = λ e. optimal;
-        composed = ends_with (yields tt) x is refl (text_composed long (subst (λ (y : List ℕ). Written 16384 (subgraph_text g y) after r) part w));
+        composed = ends_with (Ok tt) x is refl (text_composed long (subst (λ (y : List ℕ). Written 16384 (subgraph_text g y) after r) part w));
       }
 
 -- ---- the index
@@ -132,12 +127,12 @@ pub index_fits : (g : Graph) {k : ℕ} → SizesHold g.kind g.rows g.columns g.e
 index_fits g sizes all = omega (arith, all, sizes.order, sizes.few)
 
 -- The call that builds the index has answered a, where n numbers were lent for it.
-module _ (g : Graph) (bound : List ℤ) {n : ℕ} (all : n ≡ index_numbers g) {a : IndexAnswer} (says : index_says a ≡ told (reported (λ xs. tt) (build_index g n))) where
-  built : {b : IndexAnswer} (o : Outcome (Unit {0})) → a ≡ b → index_says b ≡ told o → reported (λ xs. tt) (build_index g (index_numbers g)) ≡ o
+module _ (g : Graph) (bound : List ℤ) {n : ℕ} (all : n ≡ index_numbers g) {a : (Outcome (Unit {0}))} (says : a ≡ reported (λ xs. tt) (build_index g n)) where
+  built : {b : (Outcome (Unit {0}))} (o : Outcome (Unit {0})) → a ≡ b → b ≡ o → reported (λ xs. tt) (build_index g (index_numbers g)) ≡ o
   built o is tells =
-      ap (λ k. reported (λ xs. tt) (build_index g k)) (sym all) ∙ told_same (reported (λ xs. tt) (build_index g n)) o (sym says ∙ ap index_says is ∙ tells)
+      ap (λ k. reported (λ xs. tt) (build_index g k)) (sym all) ∙ (sym says ∙ is ∙ tells)
 
-  pub index_refused : {f : Refusal} {before after : List ℕ} {r : ℕ} → a ≡ IndexAnswer.Refused f → length before ≡ 16384
+  pub index_refused : {f : Refusal} {before after : List ℕ} {r : ℕ} → a ≡ Err f → length before ≡ 16384
       → Composed line_room (refused_line Source.Input f.fault f.place) before after r → Solution g bound (solve_problem g bound) before after r
   index_refused {f} {before} {after} {r} is long h =
       let e = reported-refuses (λ xs. tt {0}) (build_index g (index_numbers g)) f.fault f.place (sym (built (refuses f.fault f.place) is refl)) in
@@ -152,10 +147,10 @@ module _ (g : Graph) (bound : List ℤ) {n : ℕ} (all : n ≡ index_numbers g) 
       }
 
   -- It is built, and solved with what was lent.
-  pub index_solved : {index before after : List ℕ} {r : ℕ} → a ≡ IndexAnswer.Indexed → index ≡ output n 0 (λ xs. xs) (build_index g n)
+  pub index_solved : {index before after : List ℕ} {r : ℕ} → a ≡ (Ok tt) → index ≡ output n 0 (λ xs. xs) (build_index g n)
       → Solution g bound (solve_indexed g bound index) before after r → Solution g bound (solve_problem g bound) before after r
   index_solved {index} {before} {after} {r} is held s =
-      let y = reported-yields (λ xs. tt {0}) (build_index g (index_numbers g)) tt (sym (built (yields tt) is refl)) in
+      let y = reported-yields (λ xs. tt {0}) (build_index g (index_numbers g)) tt (sym (built (Ok tt) is refl)) in
       let same : y.value ≡ index = sym (held ∙ ap (λ k. output k 0 (λ xs. xs) (build_index g k)) all ∙ index_fills g (index_numbers g) y.yielded) in
       let solving : solve_problem g bound ≡ solve_indexed g bound index =
       ap (λ (o : Outcome (List ℕ)). and_then (came_from Source.Input o) (solve_indexed g bound)) y.yielded ∙ ap (solve_indexed g bound) same in

@@ -6,11 +6,8 @@ ghost use Rattle.graph.specs.Passed.{SizesHold};
 ghost use Rattle.report.specs.Programs.{solve_indexed, solve_problem, SolveComposed};
 ghost use Rattle.solve.specs.Solution.{Solution};
 
-use dual::SolveAnswer;
-use graph::{
-    IndexAnswer, MOST_EDGES, MOST_INDEX, MOST_VERTICES, SUBGRAPH_BYTES, Shape, WORKSPACE_NUMBERS,
-};
-use problem_reader::ProblemAnswer;
+use graph::{MOST_EDGES, MOST_INDEX, MOST_VERTICES, SUBGRAPH_BYTES, Shape, WORKSPACE_NUMBERS};
+use problem_reader::SourceRefusal;
 use report::Source;
 
 // Solves a problem with its index, and writes the text of an optimal subgraph or the solver's refusal to `out`, 0 after its end. The result is its length.
@@ -27,7 +24,7 @@ fn solve_indexed(
     requires out_len { length out.old ≡ subgraph_bytes }
     ensures { Solution (graph_of s row.now column.now weight.now) bound.now (solve_indexed (graph_of s row.now column.now weight.now) bound.now index.now) out.old out.new result }
 {
-    let n = graph::vertex_count(s) as usize;
+    let n = s.vertex_count() as usize;
     let m = s.edges as usize;
     let mut chosen = [0u8; MOST_EDGES];
     let mut vertex_price = [0i32; MOST_VERTICES];
@@ -45,8 +42,8 @@ fn solve_indexed(
         &mut edge_price[..m],
         &mut workspace,
     ) {
-        SolveAnswer::Refused(refusal) => report::put_refused(out, Source::Input, refusal),
-        SolveAnswer::Solved => writer::put_subgraph(out, s, row, column, &chosen[..m]),
+        Err(refusal) => report::put_refused(out, Source::Input, refusal),
+        Ok(()) => writer::put_subgraph(out, s, row, column, &chosen[..m]),
     }
 }
 
@@ -66,8 +63,8 @@ fn solve_problem(
     let k = index_builder::index_numbers(s) as usize;
     let mut index = [0u32; MOST_INDEX];
     match index_builder::build_index(s, row, column, weight, &mut index[..k]) {
-        IndexAnswer::Refused(refusal) => report::put_refused(out, Source::Input, refusal),
-        IndexAnswer::Indexed => solve_indexed(s, row, column, weight, bound, &index[..k], out),
+        Err(refusal) => report::put_refused(out, Source::Input, refusal),
+        Ok(()) => solve_indexed(s, row, column, weight, bound, &index[..k], out),
     }
 }
 
@@ -78,7 +75,7 @@ pub fn solve_output(sheet: &[u8], limits: &[u8], out: &mut [u8]) -> usize
     ensures solve_composed { SolveComposed sheet.now limits.now out.old out.new result }
 {
     if out.len() != SUBGRAPH_BYTES {
-        filling::clear_bytes(out);
+        filling::fill(out, 0);
         return 0;
     }
     let mut row = [0u32; MOST_EDGES];
@@ -93,9 +90,9 @@ pub fn solve_output(sheet: &[u8], limits: &[u8], out: &mut [u8]) -> usize
         &mut weight,
         &mut bound,
     ) {
-        ProblemAnswer::Refused { source, refusal } => report::put_refused(out, source, refusal),
-        ProblemAnswer::Read(s) => {
-            let n = graph::vertex_count(s) as usize;
+        Err(SourceRefusal { source, refusal }) => report::put_refused(out, source, refusal),
+        Ok(s) => {
+            let n = s.vertex_count() as usize;
             let m = s.edges as usize;
             solve_problem(s, &row[..m], &column[..m], &weight[..m], &bound[..n], out)
         }

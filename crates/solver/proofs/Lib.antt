@@ -1,3 +1,2 @@
 -- What the tests yield, and what they show.
 pub mod Refusing
-pub mod Accepting

@@ -3,14 +3,10 @@
 
 ghost use Rattle.std.specs.Prelude.{◌≡◌, length};
 ghost use Rattle.graph.specs.Graph.{graph_of};
-ghost use Rattle.checks.specs.Checks.{check_says};
 ghost use Rattle.dual.specs.Solve as dual-solve;
-ghost use Rattle.graph.specs.Refusal.{told};
-ghost use Rattle.dual.specs.Solve.{lent_of, outputs_of, other_lengths, solve_says, Left};
+ghost use Rattle.dual.specs.Solve.{lent_of, outputs_of, other_lengths, Left};
 
-use checks::Check;
-use dual::SolveAnswer;
-use graph::{Shape, WORKSPACE_NUMBERS};
+use graph::{Refusal, Shape, WORKSPACE_NUMBERS};
 use integers::both;
 
 // The lengths of what is lent for marks, vertex prices, edge prices and the workspace.
@@ -26,7 +22,7 @@ struct Lengths {
 fn outputs_match(s: Shape, index: usize, outputs: Lengths) -> bool
     ensures { result ≡ other_lengths s index (lent_of outputs.chosen outputs.vertex outputs.edge outputs.workspace) }
 {
-    let n = graph::vertex_count(s) as usize;
+    let n = s.vertex_count() as usize;
     let m = s.edges as usize;
     let marks = both(
         index == index_builder::index_numbers(s) as usize,
@@ -45,15 +41,12 @@ fn tested(
     bound: &[i32],
     index: &[u32],
     outputs: Lengths,
-) -> Check
-    ensures { check_says result ≡ dual-solve.solve (graph_of s row.now column.now weight.now) bound.now index.now (lent_of outputs.chosen outputs.vertex outputs.edge outputs.workspace) }
+) -> Result<(), Refusal>
+    ensures { result ≡ dual-solve.solve (graph_of s row.now column.now weight.now) bound.now index.now (lent_of outputs.chosen outputs.vertex outputs.edge outputs.workspace) }
 {
     let others = outputs_match(s, index.len(), outputs);
-    if let Check::Refused(r) = lent::check_bipartite(s, row, column, weight, bound, others) {
-        return Check::Refused(r);
-    }
-    let last = index::check_places(s, row, column, index);
-    last
+    lent::check_bipartite(s, row, column, weight, bound, others)?;
+    index::check_places(s, row, column, index)
 }
 
 // Chooses a subgraph of largest weight, and sets prices that show it, where the tests accept the graph, its bounds and its index.
@@ -68,8 +61,8 @@ pub fn solve(
     vertex_price: &mut [i32],
     edge_price: &mut [i32],
     workspace: &mut [i32],
-) -> SolveAnswer
-    ensures result_value { solve_says result ≡ told (dual-solve.solve (graph_of s row.now column.now weight.now) bound.now index.now (lent_of (length chosen.old) (length vertex_price.old) (length edge_price.old) (length workspace.old))) }
+) -> Result<(), Refusal>
+    ensures result_value { result ≡ dual-solve.solve (graph_of s row.now column.now weight.now) bound.now index.now (lent_of (length chosen.old) (length vertex_price.old) (length edge_price.old) (length workspace.old)) }
     ensures left { Left (graph_of s row.now column.now weight.now) bound.now index.now (lent_of (length chosen.old) (length vertex_price.old) (length edge_price.old) (length workspace.old)) (outputs_of chosen.new vertex_price.new edge_price.new) workspace.new }
 {
     let outputs = Lengths {
@@ -79,13 +72,11 @@ pub fn solve(
         workspace: workspace.len(),
     };
     let check = tested(s, row, column, weight, bound, index, outputs);
-    filling::clear_bytes(chosen);
-    filling::clear_integers(vertex_price);
-    filling::clear_integers(edge_price);
-    filling::clear_integers(workspace);
-    if let Check::Refused(r) = check {
-        return SolveAnswer::Refused(r);
-    }
+    filling::fill(chosen, 0);
+    filling::fill(vertex_price, 0);
+    filling::fill(edge_price, 0);
+    filling::fill(workspace, 0);
+    check?;
     optimiser::optimise(
         s,
         row,
@@ -98,6 +89,6 @@ pub fn solve(
         edge_price,
         workspace,
     );
-    filling::clear_integers(workspace);
-    SolveAnswer::Solved
+    filling::fill(workspace, 0);
+    Ok(())
 }

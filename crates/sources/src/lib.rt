@@ -6,35 +6,21 @@ ghost use Rattle.sources.specs.Sources.{SourceAs};
 use entries::Entry;
 use graph::Fault;
 
-// What a line after the problem line is: the next source node, the first arc, or refused.
-#[derive(Clone, Copy)]
+// What a line after the problem line is: the next source node, or the first arc.
+#[derive(Clone, Copy, Debug, PartialEq, Eq)]
 pub enum SourceLine {
     Node(u32),
     Arc,
-    Refused(Fault),
 }
 
-pub fn next_source(line: &[u8], arcs: u32, rows: u32) -> SourceLine
+// A line after the problem line.
+pub fn next_source(line: &[u8], arcs: u32, rows: u32) -> Result<SourceLine, Fault>
     ensures { SourceAs line.now arcs rows result }
 {
     match entries::entry_on(line) {
-        Entry::Source(node) => {
-            if nodes::is_next(node, rows) {
-                return SourceLine::Node(node);
-            }
-            SourceLine::Refused(Fault::Sources)
-        }
-        Entry::Arc {
-            source,
-            target,
-            cost,
-        } => {
-            if arcs > 0 {
-                return SourceLine::Arc;
-            }
-            SourceLine::Refused(Fault::AssignmentLine)
-        }
-        Entry::Problem { nodes, arcs } => SourceLine::Refused(Fault::AssignmentLine),
-        Entry::Bad => SourceLine::Refused(Fault::AssignmentLine),
+        Some(Entry::Source(node)) if nodes::is_next(node, rows) => Ok(SourceLine::Node(node)),
+        Some(Entry::Source(_)) => Err(Fault::Sources),
+        Some(Entry::Arc { .. }) if arcs > 0 => Ok(SourceLine::Arc),
+        _ => Err(Fault::AssignmentLine),
     }
 }

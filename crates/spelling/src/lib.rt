@@ -3,28 +3,15 @@
 
 ghost use Rattle.std.specs.Prelude.{◌<◌, ◌≡◌};
 ghost use Rattle.layout.specs.Text.{padded, above_zero, value_after_plus, value_after_minus};
-ghost use Rattle.spelling.specs.Spelling.{natural_says, zero_refused};
+ghost use Rattle.spelling.specs.Spelling.{zero_refused};
 
 use layout::Rules;
-
-// What a word is as a size or an index.
-#[derive(Clone, Copy)]
-pub enum Natural {
-    Is(u32),
-    Bad,
-}
 
 // A leading zero: the word has two bytes or more, and begins with 0.
 fn is_padded(w: &[u8]) -> bool
     ensures { result ≡ padded w.now }
 {
-    if w.len() < 1 {
-        return false;
-    }
-    if w[0] != 48 {
-        return false;
-    }
-    w.len() > 1
+    w.len() > 1 && w[0] == b'0'
 }
 
 // A leading zero that the rules do not take.
@@ -38,35 +25,25 @@ pub fn is_zero_refused(w: &[u8], rules: Rules) -> bool
 }
 
 // A number after +, which only the old rules take.
-pub fn after_plus(n: Natural, rules: Rules) -> Natural
-    ensures { natural_says result ≡ value_after_plus rules (natural_says n) }
+pub fn after_plus(n: Option<u32>, rules: Rules) -> Option<u32>
+    ensures { result ≡ value_after_plus rules n }
 {
     match rules {
-        Rules::New => Natural::Bad,
+        Rules::New => None,
         Rules::Old => n,
     }
 }
 
 // A number above 0.
-fn above_zero(n: Natural) -> Natural
-    ensures { natural_says result ≡ above_zero (natural_says n) }
+fn above_zero(n: Option<u32>) -> Option<u32>
+    ensures { result ≡ above_zero n }
 {
-    match n {
-        Natural::Is(value) => {
-            let some = value > 0;
-            if some {
-                Natural::Is(value)
-            } else {
-                Natural::Bad
-            }
-        }
-        Natural::Bad => Natural::Bad,
-    }
+    n.filter(|value| *value > 0)
 }
 
 // A number after -. Only the old rules take -0.
-pub fn after_minus(n: Natural, rules: Rules) -> Natural
-    ensures { natural_says result ≡ value_after_minus rules (natural_says n) }
+pub fn after_minus(n: Option<u32>, rules: Rules) -> Option<u32>
+    ensures { result ≡ value_after_minus rules n }
 {
     match rules {
         Rules::New => above_zero(n),

@@ -11,7 +11,7 @@ use Rattle.sets.specs.Words.{covers_by}
 abbrev pub cover_by : Prices → ℕ → ℕ → ℕ → ℤ
 cover_by P e f t =
     vertex_price P f +ℤ vertex_price P t +ℤ edge_price P e
-    +ℤ sumℤ P.sets (λ k. pos (one (covers_by P.marks.vertices P.marks.edges k e f t)) *ℤ set_price P k)
+    +ℤ sumℤ P.sets (λ k. pos (one (covers_by P.marks k e f t)) *ℤ set_price P k)
 
 pub cover_at : (P : Prices) (e : ℕ) {f t a b : ℕ} {r : ℤ} → (f ≡ a) × (t ≡ b) → r ≡ cover_by P e f t → r ≡ cover_by P e a b
 cover_at P e p h = h ∙ ap₂ (cover_by P e) p.0 p.1

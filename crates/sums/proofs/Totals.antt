@@ -1,27 +1,30 @@
--- One law for every loop that adds up at most 1,024 integers, each within 2 ^ 48.
-use Prim.Native.Nat.{ℕ, ◌+◌, ◌^◌, ◌≤◌, ◌<◌}
+-- The steps of the loop that adds up at most 1,024 integers, each within 2 ^ 48, and what its callers have of it.
+use Prim.Native.Nat.{ℕ, ◌+◌, ◌*◌, ◌^◌, ◌≤◌, ◌<◌}
 use mathlib.Core.Path.{◌≡◌, ap, ◌∙◌}
 use native.Mathlib.Omega.{arith}
 use lib.IntN.{ℤ, ◌+ℤ◌}
 use Rattle.integers.specs.Integer.{Within}
 use Rattle.integers.specs.Sum.{sumℤ}
-use Rattle.integers.proofs.Loops.{Summedℤ, summedℤ_more, summedℤ_all}
-use Rattle.terms.proofs.Machine.{Fits64, stored, stored_is, stored_within}
+use Rattle.integers.proofs.Loops.{Summedℤ, summedℤ_more}
+use Rattle.integers.proofs.Order.{within-add}
+use Rattle.terms.proofs.Machine.{Fits64, fits, stored, stored_is, stored_within}
 
--- The total is the sum of the first i of n terms f.
-abbrev pub Adding : ℕ → (ℕ → ℤ) → ℕ → ℤ → Type 0
-Adding n f i total = Summedℤ n 281474976710656 f i total
+-- The term x is added to the total of the first i.
+module _ {i : ℕ} (total x : ℤ) (few : i < 1024) (small : Within (2 ^ 48 * i) total) (hx : Fits64 x) (w : Within (2 ^ 48) x) where
+  sum_small : Within (2 ^ 48 * (i + 1)) (total +ℤ stored x)
+  sum_small = omega (arith, within-add total (stored x) {n = 2 ^ 48} small (stored_within x hx w (omega arith)))
 
-module _ {n : ℕ} {f : ℕ → ℤ} {i : ℕ} {total : ℤ} (S : Adding n f i total) where
-  -- The next term can be added.
-  pub addable : (x : ℤ) → n ≤ 1024 → Fits64 x → Within (2 ^ 48) x → Within (2 ^ 61) total × Within (2 ^ 61) (stored x)
-  addable x few h k = (omega (arith, S.small, S.within), stored_within x h k (omega arith))
+  sum_fits : Fits64 (total +ℤ stored x)
+  sum_fits = fits (total +ℤ stored x) (omega arith) sum_small
 
-  -- It is added.
-  pub added : (x r : ℤ) → i < n → Fits64 x → Fits64 r → (x ≡ f i) × Within (2 ^ 48) x → r ≡ total +ℤ stored x → Adding n f (i + 1) (stored r)
-  added x r l hx hr p e =
-      summedℤ_more S l (stored_is x hx ∙ p.0, stored_within x hx p.1 (omega arith)) (stored_is r hr ∙ e)
+  pub total_small : Within (2 ^ 48 * (i + 1)) (stored (total +ℤ stored x))
+  total_small = stored_within (total +ℤ stored x) sum_fits sum_small (omega arith)
 
-  -- All are added, and they are m.
-  pub added_all : {m : ℕ} → n ≤ i → n ≤ 1024 → n ≡ m → (total ≡ sumℤ m f) × Within (2 ^ 58) total
-  added_all l few e = let w = summedℤ_all S l in (w.0 ∙ ap (λ k. sumℤ k f) e, omega (arith, w.1))
+  pub total_more : {n most : ℕ} {f : ℕ → ℤ} → Summedℤ n most f i total → i < n → (x ≡ f i) × Within most x →
+      Summedℤ n most f (i + 1) (stored (total +ℤ stored x))
+  total_more S l p = summedℤ_more S l (stored_is x hx ∙ p.0, stored_within x hx p.1 (omega arith)) (stored_is (total +ℤ stored x) sum_fits)
+
+-- The sum r of the n terms f, which are m, each within a bound; k is large enough.
+pub all_added : (f : ℕ → ℤ) (most k : ℕ) (r : ℤ) {n m : ℕ} → Fits64 r → (r ≡ sumℤ n f) × Within (most * n) r → n ≡ m → most * n ≤ k →
+    (stored r ≡ sumℤ m f) × Within k (stored r)
+all_added f most k r hr p e l = (stored_is r hr ∙ p.0 ∙ ap (λ j. sumℤ j f) e, stored_within r hr p.1 l)

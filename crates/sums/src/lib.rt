@@ -1,9 +1,9 @@
 // The sums of the measuring call: the subgraph's weight, the parts of the prices' total, the cover of every edge, and the four slacks.
 // Weights, bounds and prices are 32 bits wide, and their sums 64: a term is within 2 ^ 48, and a sum of at most 1,024 terms within 2 ^ 58.
-// The words `insides`, 2 a set, mark vertices, and `markings`, 16 a set, mark edges. Odd sets count by k.
+// Odd sets count by k.
 #![tactic(auto)]
 
-ghost use Rattle.std.specs.Prelude.{ℕ, ◌-◌, ◌*◌, ◌/◌, ◌+◌, ◌^◌, ◌≤◌, ◌<◌, ◌≡◌, [], pos, ◌+ℤ◌, ◌-ℤ◌, ◌*ℤ◌, length, get_or, ◌≤ℤ◌};
+ghost use Rattle.std.specs.Prelude.{ℕ, ℤ, ◌-◌, ◌*◌, ◌/◌, ◌+◌, ◌^◌, ◌≤◌, ◌<◌, ◌≡◌, [], pos, ◌+ℤ◌, ◌-ℤ◌, ◌*ℤ◌, length, get_or, ◌≤ℤ◌};
 ghost use Rattle.std.specs.Int.Signed.{le_z};
 ghost use Rattle.integers.specs.Integer.{Within};
 ghost use Rattle.integers.specs.Sum.{sumℤ};
@@ -13,14 +13,36 @@ ghost use Rattle.graph.specs.Refusal.{lowest};
 ghost use Rattle.graph.specs.Subgraph.{mark_at};
 ghost use Rattle.graph.specs.Passed.{Sound, Bounded, MarksHold};
 ghost use Rattle.dual.specs.Sets.{one};
-ghost use Rattle.dual.specs.Prices.{prices_of};
 ghost use Rattle.dual.specs.Gap.{half_points, cover_of};
-ghost use Rattle.lowest.specs.Lowest.{lowest_says};
-ghost use Rattle.sets.specs.Words.{covers_by};
-ghost use Rattle.sums.specs.Lent.{PricesLent};
+ghost use Rattle.sets.specs.Words.{marks_of, HasSet, covers_by};
+ghost use Rattle.sums.specs.Lent.{prices_in, PricesLent};
 
 use graph::{Ends, MOST_EDGES, MOST_SETS, MOST_VERTICES, Shape};
-use lowest::Lowest;
+use sets::OddSets;
+
+// The prices of vertices and of edges; the number of odd sets, with their prices and the words that mark them.
+#[derive(Clone, Copy)]
+pub struct Prices<'a> {
+    pub vertex: &'a [i32],
+    pub edge: &'a [i32],
+    pub sets: u32,
+    pub set: &'a [i32],
+    pub marks: OddSets<'a>,
+}
+
+// The sum of at most 1,024 terms, those of 0 .. n - 1, each within 2 ^ 48.
+fn sum_of<F: Fn(usize) -> i64>(n: usize, term: F) -> i64
+    requires few { n ≤ most_edges }
+    requires callable { (i : ℕ) → i < n → F.pre term i }
+    requires small { (i : ℕ) (x : ℤ) → i < n → F.post term i x → Within (2 ^ 48) x }
+    ensures { (f : ℕ → ℤ) (most : ℕ) → ((i : ℕ) (x : ℤ) → i < n → F.post term i x → (x ≡ f i) × Within most x) → (result ≡ sumℤ n f) × Within (most * n) result }
+{
+    let mut total = 0;
+    for i in 0..n {
+        total += term(i);
+    }
+    total
+}
 
 // The weight of edge e where it is chosen, else 0.
 fn chosen_weight(weight: &[i32], chosen: &[u8], e: usize) -> i64
@@ -35,14 +57,7 @@ pub fn weight_of(edges: u32, weight: &[i32], chosen: &[u8]) -> i64
     requires { (edges ≤ most_edges) × (length weight.now ≡ edges) × MarksHold edges chosen.now }
     ensures { (result ≡ sumℤ edges (λ e. pos (mark_at chosen.now e) *ℤ get_or weight.now e (pos 0))) × Within (2 ^ 58) result }
 {
-    let m = edges as usize;
-    let mut total = 0;
-    let mut e = 0;
-    while e < m {
-        total = integers::add(total, chosen_weight(weight, chosen, e));
-        e += 1;
-    }
-    total
+    sum_of(edges as usize, |e| chosen_weight(weight, chosen, e))
 }
 
 // The bound of vertex v, as a natural number.
@@ -66,14 +81,8 @@ pub fn vertex_total(s: Shape, bound: &[i32], vertex_price: &[i32]) -> i64
     requires { (vertices_in s ≤ most_vertices) × Bounded (vertices_in s) bound.now × (length vertex_price.now ≡ vertices_in s) }
     ensures { (result ≡ sumℤ (vertices_in s) (λ v. bound_at bound.now v *ℤ get_or vertex_price.now v (pos 0))) × Within (2 ^ 58) result }
 {
-    let n = graph::vertex_count(s) as usize;
-    let mut total = 0;
-    let mut v = 0;
-    while v < n {
-        total = integers::add(total, bound_price(bound, vertex_price, v));
-        v += 1;
-    }
-    total
+    let n = s.vertex_count() as usize;
+    sum_of(n, |v| bound_price(bound, vertex_price, v))
 }
 
 // The part of the total that the edges have: all their prices.
@@ -81,14 +90,7 @@ pub fn edge_total(edges: u32, edge_price: &[i32]) -> i64
     requires { (edges ≤ most_edges) × (length edge_price.now ≡ edges) }
     ensures { (result ≡ sumℤ edges (λ e. get_or edge_price.now e (pos 0))) × Within (2 ^ 58) result }
 {
-    let m = edges as usize;
-    let mut total = 0;
-    let mut e = 0;
-    while e < m {
-        total = integers::add(total, integers::element(edge_price, e));
-        e += 1;
-    }
-    total
+    sum_of(edges as usize, |e| integers::element(edge_price, e))
 }
 
 // The price of odd set k times its capacity.
@@ -104,14 +106,7 @@ pub fn set_total(sets: u32, load: [u32; MOST_SETS], set_price: &[i32]) -> i64
     requires { (sets ≤ most_sets) × (length set_price.now ≡ sets) × ((k : ℕ) → k < sets → get_or load k 0 ≤ 2 ^ 16) }
     ensures { (result ≡ sumℤ sets (λ k. pos (get_or load k 0 / 2) *ℤ get_or set_price.now k (pos 0))) × Within (2 ^ 58) result }
 {
-    let count = sets as usize;
-    let mut total = 0;
-    let mut k = 0;
-    while k < count {
-        total = integers::add(total, capacity_price(load[k], set_price, k));
-        k += 1;
-    }
-    total
+    sum_of(sets as usize, |k| capacity_price(load[k], set_price, k))
 }
 
 // The price of vertex v times its residual bound (unused limit).
@@ -138,14 +133,8 @@ pub fn vertex_slack(
     requires by_index { (v : ℕ) → v < vertices_in s → get_or degree v 0 ≤ 2 ^ 16 }
     ensures { (result ≡ sumℤ (vertices_in s) (λ v. get_or vertex_price.now v (pos 0) *ℤ (bound_at bound.now v -ℤ pos (get_or degree v 0)))) × Within (2 ^ 58) result }
 {
-    let n = graph::vertex_count(s) as usize;
-    let mut total = 0;
-    let mut v = 0;
-    while v < n {
-        total = integers::add(total, residual_price(degree[v], bound, vertex_price, v));
-        v += 1;
-    }
-    total
+    let n = s.vertex_count() as usize;
+    sum_of(n, |v| residual_price(degree[v], bound, vertex_price, v))
 }
 
 // The slack of odd sets, from their loads and from how many chosen edges each covers.
@@ -159,16 +148,13 @@ pub fn set_slack(
     requires by_index { (k : ℕ) → k < sets → (get_or load k 0 ≤ 2 ^ 16) × (get_or covered k 0 ≤ 2 ^ 16) }
     ensures { (result ≡ sumℤ sets (λ k. get_or set_price.now k (pos 0) *ℤ (pos (get_or load k 0 / 2) -ℤ pos (get_or covered k 0)))) × Within (2 ^ 58) result }
 {
-    let count = sets as usize;
-    let mut total = 0;
-    let mut k = 0;
-    while k < count {
-        let most = terms::capacity(load[k]);
-        let rest = terms::price_of_rest(integers::element(set_price, k), most, covered[k]);
-        total = integers::add(total, rest);
-        k += 1;
-    }
-    total
+    sum_of(sets as usize, |k| {
+        terms::price_of_rest(
+            integers::element(set_price, k),
+            terms::capacity(load[k]),
+            covered[k],
+        )
+    })
 }
 
 // The price of edge e where it is not chosen, else 0.
@@ -184,68 +170,33 @@ pub fn edge_slack(edges: u32, chosen: &[u8], edge_price: &[i32]) -> i64
     requires { (edges ≤ most_edges) × (length edge_price.now ≡ edges) × MarksHold edges chosen.now }
     ensures { (result ≡ sumℤ edges (λ e. pos (1 - mark_at chosen.now e) *ℤ get_or edge_price.now e (pos 0))) × Within (2 ^ 58) result }
 {
-    let m = edges as usize;
-    let mut total = 0;
-    let mut e = 0;
-    while e < m {
-        total = integers::add(total, unchosen_price(chosen, edge_price, e));
-        e += 1;
-    }
-    total
-}
-
-// The price of odd set k where it covers edge e, else 0.
-fn price_covering(
-    e: usize,
-    ends: Ends,
-    set_price: &[i32],
-    insides: &[u64],
-    markings: &[u64],
-    k: usize,
-) -> i64
-    requires e_lt_most_edges { (e < most_edges) × (ends.first < most_vertices) × (ends.second < most_vertices) × (k < length set_price.now) }
-    requires vertex_words_in_bounds { (vertex_words * k + vertex_words ≤ length insides.now) × (edge_words * k + edge_words ≤ length markings.now) }
-    ensures { (result ≡ pos (one (covers_by insides.now markings.now k e ends.first ends.second)) *ℤ get_or set_price.now k (pos 0)) × Within (2 ^ 31) result }
-{
-    let covering = sets::covers_edge(e, ends, insides, markings, k);
-    integers::if_chosen(sets::as_number(covering), integers::element(set_price, k))
+    sum_of(edges as usize, |e| unchosen_price(chosen, edge_price, e))
 }
 
 // The prices of all odd sets that cover edge e, added up.
-fn set_cover(
-    e: usize,
-    ends: Ends,
-    sets: u32,
-    set_price: &[i32],
-    insides: &[u64],
-    markings: &[u64],
-) -> i64
+fn set_cover(prices: Prices, e: usize, ends: Ends) -> i64
     requires e_lt_most_edges { (e < most_edges) × (ends.first < most_vertices) × (ends.second < most_vertices) }
-    requires sets_le_most_sets { (sets ≤ most_sets) × (length set_price.now ≡ sets) × (length insides.now ≡ vertex_words * sets) × (length markings.now ≡ edge_words * sets) }
-    ensures { (result ≡ sumℤ sets (λ k. pos (one (covers_by insides.now markings.now k e ends.first ends.second)) *ℤ get_or set_price.now k (pos 0))) × Within (2 ^ 35) result }
+    requires sets_le_most_sets { (prices.sets ≤ most_sets) × (length prices.set.now ≡ prices.sets) }
+    requires words_len { (length prices.marks.vertices.now ≡ vertex_words * prices.sets) × (length prices.marks.edges.now ≡ edge_words * prices.sets) }
+    ensures { (result ≡ sumℤ prices.entry.sets (λ k. pos (one (covers_by (marks_of prices.entry.marks) k e ends.first ends.second)) *ℤ get_or prices.entry.set.now k (pos 0)))
+        × Within (2 ^ 35) result }
 {
-    let count = sets as usize;
-    let mut total = 0;
-    let mut k = 0;
-    while k < count {
-        let price = price_covering(e, ends, set_price, insides, markings, k);
-        total = integers::add(total, price);
-        k += 1;
-    }
-    total
+    sum_of(prices.sets as usize, |k| {
+        integers::if_chosen(
+            u8::from(prices.marks.covers(k, e, ends)),
+            integers::element(prices.set, k),
+        )
+    })
 }
 
 // The prices of an edge's ends and its own, added up.
-fn own_cover(e: usize, ends: Ends, vertex_price: &[i32], edge_price: &[i32]) -> i64
-    requires { (ends.first < length vertex_price.now) × (ends.second < length vertex_price.now) × (e < length edge_price.now) }
-    ensures { (result ≡ get_or vertex_price.now ends.first (pos 0) +ℤ get_or vertex_price.now ends.second (pos 0) +ℤ get_or edge_price.now e (pos 0)) × Within (2 ^ 33) result }
+fn own_cover(prices: Prices, e: usize, ends: Ends) -> i64
+    requires { (ends.first < length prices.vertex.now) × (ends.second < length prices.vertex.now) × (e < length prices.edge.now) }
+    ensures { (result ≡ get_or prices.entry.vertex.now ends.first (pos 0) +ℤ get_or prices.entry.vertex.now ends.second (pos 0) +ℤ get_or prices.entry.edge.now e (pos 0)) × Within (2 ^ 33) result }
 {
-    let first = integers::element(vertex_price, ends.first);
-    let second = integers::element(vertex_price, ends.second);
-    integers::add(
-        integers::add(first, second),
-        integers::element(edge_price, e),
-    )
+    let first = integers::element(prices.vertex, ends.first);
+    let second = integers::element(prices.vertex, ends.second);
+    first + second + integers::element(prices.edge, e)
 }
 
 // Sets the table to the cover of every edge: the prices of its ends, its own, and of all odd sets that cover it.
@@ -253,44 +204,26 @@ pub fn cover_table(
     s: Shape,
     row: &[u32],
     column: &[u32],
-    vertex_price: &[i32],
-    edge_price: &[i32],
-    sets: u32,
-    set_price: &[i32],
-    insides: &[u64],
-    markings: &[u64],
+    prices: Prices,
     table: &mut [i64; MOST_EDGES],
 )
     requires sound { Sound s row.now column.now }
-    requires prices_lent { PricesLent s vertex_price.now edge_price.now sets set_price.now }
-    requires insides_len { (length insides.now ≡ vertex_words * sets) × (length markings.now ≡ edge_words * sets) × (length table.old ≡ most_edges) }
-    ensures { (e : ℕ) → e < s.edges → (get_or table.new e (pos 0) ≡ cover_of (graph_of s row.now column.now []) (prices_of vertex_price.now edge_price.now sets set_price.now insides.now markings.now) e) × Within (2 ^ 36) (get_or table.new e (pos 0)) }
+    requires prices_lent { PricesLent s (prices_in prices) }
+    requires words_len { (length prices.marks.vertices.now ≡ vertex_words * prices.sets) × (length prices.marks.edges.now ≡ edge_words * prices.sets) × (length table.old ≡ most_edges) }
+    ensures { (e : ℕ) → e < s.edges → (get_or table.new e (pos 0) ≡ cover_of (graph_of s row.now column.now []) (prices_in prices.entry) e) × Within (2 ^ 36) (get_or table.new e (pos 0)) }
 {
-    let mut e = 0;
-    while e < row.len() {
-        let ends = graph::ends_of(s, row[e], column[e]);
-        let own = own_cover(e, ends, vertex_price, edge_price);
-        let odd = set_cover(e, ends, sets, set_price, insides, markings);
-        table[e] = integers::add(own, odd);
-        e += 1;
+    for e in 0..row.len() {
+        let ends = s.ends_of(row[e], column[e]);
+        table[e] = own_cover(prices, e, ends) + set_cover(prices, e, ends);
     }
 }
 
 // The lowest edge whose worth, its weight in half points, is over its cover.
-pub fn lowest_uncovered(edges: u32, weight: &[i32], cover: &[i64; MOST_EDGES]) -> Lowest
+pub fn lowest_uncovered(edges: u32, weight: &[i32], cover: &[i64; MOST_EDGES]) -> Option<usize>
     requires { (edges ≤ most_edges) × (length weight.now ≡ edges) }
-    ensures { lowest_says result ≡ lowest edges (λ e. le_z (half_points (get_or weight.now e (pos 0))) (get_or cover.now e (pos 0))) }
+    ensures { result ≡ lowest edges (λ e. le_z (half_points (get_or weight.now e (pos 0))) (get_or cover.now e (pos 0))) }
 {
-    let m = edges as usize;
-    let mut e = 0;
-    while e < m {
-        if terms::is_covered(weight, e, cover[e]) {
-            e += 1;
-        } else {
-            return Lowest::At(e);
-        }
-    }
-    Lowest::Nothing
+    (0..edges as usize).find(|e| !terms::is_covered(weight, *e, cover[*e]))
 }
 
 // The slack of cover.
@@ -299,12 +232,8 @@ pub fn cover_slack(edges: u32, cover: &[i64; MOST_EDGES], weight: &[i32], chosen
     requires by_index { (e : ℕ) → e < edges → Within (2 ^ 36) (get_or cover.now e (pos 0)) }
     ensures { (result ≡ sumℤ edges (λ e. pos (mark_at chosen.now e) *ℤ (get_or cover.now e (pos 0) -ℤ half_points (get_or weight.now e (pos 0))))) × Within (2 ^ 58) result }
 {
-    let m = edges as usize;
-    let mut total = 0;
-    let mut e = 0;
-    while e < m {
-        total = integers::add(total, terms::excess(cover[e], weight, chosen, e));
-        e += 1;
-    }
-    total
+    sum_of(
+        edges as usize,
+        |e| terms::excess(cover[e], weight, chosen, e),
+    )
 }

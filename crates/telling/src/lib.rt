@@ -2,11 +2,10 @@
 #![tactic(auto)]
 
 ghost use Rattle.std.specs.Prelude.{◌≡◌, length};
-ghost use Rattle.graph.specs.Refusal.{number_of};
-ghost use Rattle.telling.specs.Telling.{kind_of, kind_number, numbers_of, number_in, shape_told, shape_outcome, length_told, text_outcome};
+ghost use Rattle.telling.specs.Telling.{kind_of, kind_number, numbers_of, number_in, place_in, shape_told, length_told};
 
 use graph::{Kind, Refusal, Shape};
-use layout::{GraphAnswer, Numbers, TextAnswer};
+use layout::Numbers;
 
 // The kind that is passed as a bool.
 fn kind_of(general: bool) -> Kind
@@ -23,9 +22,8 @@ fn kind_of(general: bool) -> Kind
 pub fn shape_given(general: bool, rows: u32, columns: u32, edges: u32) -> Shape
     ensures { (result.kind ≡ kind_of general) × (result.rows ≡ rows) × (result.columns ≡ columns) × (result.edges ≡ edges) }
 {
-    let kind = kind_of(general);
     Shape {
-        kind,
+        kind: kind_of(general),
         rows,
         columns,
         edges,
@@ -53,47 +51,56 @@ fn kind_number(kind: Kind) -> u64
     }
 }
 
-// Tells a refusal's place, and answers its number.
-pub fn tell(refusal: Refusal, place: &mut u64) -> u32
-    ensures { (result ≡ number_of refusal.fault) × (place.new ≡ refusal.place) }
+// Tells the place of a refusal, and answers its number; each is 0 where there is none.
+pub fn tell(told: Result<(), Refusal>, place: &mut u64) -> u32
+    ensures { (result ≡ number_in told) × (place.new ≡ place_in told) }
 {
-    *place = refusal.place;
-    let fault = refusal.fault;
-    graph::number(fault)
+    match told {
+        Ok(()) => {
+            *place = 0;
+            0
+        }
+        Err(refusal) => {
+            *place = refusal.place;
+            u32::from(refusal.fault)
+        }
+    }
 }
 
 // Tells the place of a refusal and the length of a text, as a call that writes one answers them, and answers the refusal's number.
-pub fn tell_text(told: TextAnswer, answer: &mut [u64; 2]) -> u32
-    ensures { (result ≡ number_in (text_outcome told)) × (answer.new ≡ length_told (text_outcome told)) }
+pub fn tell_text(told: Result<usize, Refusal>, answer: &mut [u64; 2]) -> u32
+    ensures { (result ≡ number_in told) × (answer.new ≡ length_told told) }
 {
     match told {
-        TextAnswer::Written(length) => {
+        Ok(length) => {
             *answer = [0, length as u64];
             0
         }
-        TextAnswer::Refused(refusal) => {
+        Err(refusal) => {
             *answer = [refusal.place, 0];
-            let fault = refusal.fault;
-            graph::number(fault)
+            u32::from(refusal.fault)
         }
     }
 }
 
 // Tells the place of a refusal and the shape of a graph, as a reader of one answers them, and answers the refusal's number.
-pub fn tell_shape(told: GraphAnswer, answer: &mut [u64; 5]) -> u32
-    ensures { (result ≡ number_in (shape_outcome told)) × (answer.new ≡ shape_told (shape_outcome told)) }
+pub fn tell_shape(told: Result<Shape, Refusal>, answer: &mut [u64; 5]) -> u32
+    ensures { (result ≡ number_in told) × (answer.new ≡ shape_told told) }
 {
     match told {
-        GraphAnswer::Graph(s) => {
-            let kind = s.kind;
-            let number = kind_number(kind);
-            *answer = [0, number, s.rows as u64, s.columns as u64, s.edges as u64];
+        Ok(s) => {
+            *answer = [
+                0,
+                kind_number(s.kind),
+                u64::from(s.rows),
+                u64::from(s.columns),
+                u64::from(s.edges),
+            ];
             0
         }
-        GraphAnswer::Refused(refusal) => {
+        Err(refusal) => {
             *answer = [refusal.place, 0, 0, 0, 0];
-            let fault = refusal.fault;
-            graph::number(fault)
+            u32::from(refusal.fault)
         }
     }
 }

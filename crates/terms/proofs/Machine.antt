@@ -7,11 +7,14 @@ use lib.Signed.{mag}
 use mir.Syntax.{w64}
 use mir.Val.{to_z, of_z}
 use Rattle.integers.specs.Integer.{up, dn, Within}
-use Rattle.integers.proofs.Order.{back}
+use Rattle.integers.proofs.Order.{mag_le, back}
 
 -- An integer is a number of 64 bits.
 abbrev pub Fits64 : ℤ → Type 0
 Fits64 x = mag x < 2 ^ 63
+
+pub fits : (x : ℤ) {n : ℕ} → n < 2 ^ 63 → Within n x → Fits64 x
+fits x l w = omega (arith, mag_le x)
 
 -- It as it is stored.
 abbrev pub stored : ℤ → ℤ

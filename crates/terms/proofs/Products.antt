@@ -1,13 +1,14 @@
 -- The laws of products: a number taken a count of times, or by its mark, and a price times what is left of a most.
 use Prim.Native.Nat.{ℕ, ◌+◌, ◌*◌, ◌^◌, ◌≤◌}
-use mathlib.Core.Path.{◌≡◌, sym, ap, ap₂, ◌∙◌, subst}
+use mathlib.Core.Path.{◌≡◌, refl, sym, ap, ap₂, ◌∙◌, subst}
 use native.Mathlib.Omega.{arith}
 use lib.IntN.{ℤ, pos, neg_ℤ, ◌+ℤ◌, ◌-ℤ◌, ◌*ℤ◌, +ℤ_invl, *ℤ-zero, *ℤ_comm}
 use Rattle.integers.specs.Integer.{up, dn, Within}
 use Rattle.integers.proofs.Order.{order, up-add, up_neg, within-scaled, within-diff}
 use Rattle.integers.proofs.Diff.{times_add}
 use Rattle.dual.specs.Gap.{half_points}
-use Rattle.terms.proofs.Machine.{Fits64, stored, stored_is, stored_within, stored_both}
+use Rattle.terms.proofs.Machine.{Fits64, fits, stored, stored_is, stored_within}
+use Rattle.terms.proofs.Steps.{Is, minus}
 
 neg_of : (x y : ℤ) → x +ℤ y ≡ pos 0 → x ≡ neg_ℤ y
 neg_of x y e = omega (order, up-add x y, up_neg y, ap up e, ap dn e)
@@ -21,6 +22,20 @@ times_rest z a b =
     sym
     (times_add z (pos a) (neg_ℤ (pos b))
     ∙ ap₂ ◌+ℤ◌ (*ℤ_comm z (pos a)) (times_neg z (pos b) ∙ ap neg_ℤ (*ℤ_comm z (pos b))))
+
+-- A price times what y leaves of x, which are k of the most and l that are used.
+pub rested : (z x y : ℤ) {k l : ℕ} → Fits64 z → Fits64 x → Fits64 y → x ≡ pos k → y ≡ pos l → k ≤ 2 ^ 16 → l ≤ 2 ^ 16 → Within (2 ^ 31) z →
+    Is (z *ℤ (pos k -ℤ pos l)) (2 ^ 48) (stored z *ℤ stored (stored x -ℤ stored y))
+rested z x y {k} {l} hz hx hy ex ey a b w =
+    let d = minus x y (stored x -ℤ stored y) hx hy (ex, subst (λ (u : ℤ). Within (2 ^ 16) u) (sym ex) (omega arith)) (ey, subst (λ (u : ℤ). Within (2 ^ 16) u) (sym ey) (omega arith)) refl in
+    let e : stored z *ℤ stored (stored x -ℤ stored y) ≡ z *ℤ (pos k -ℤ pos l) =
+    ap₂ ◌*ℤ◌ (stored_is z hz) (stored_is (stored x -ℤ stored y) (fits (stored x -ℤ stored y) (omega arith) d.1) ∙ d.0) in
+    (e, subst (λ (u : ℤ). Within (2 ^ 48) u) (sym e) small)
+  where
+    small : Within (2 ^ 48) (z *ℤ (pos k -ℤ pos l))
+    small =
+        subst (λ (u : ℤ). Within (2 ^ 48) u) (times_rest z k l)
+        (within-diff (pos k *ℤ z) (pos l *ℤ z) {m = 2 ^ 47} {n = 2 ^ 47} (within-scaled k z a w) (within-scaled l z b w))
 
 -- A number within 2 ^ 31 can be taken at most 2 ^ 16 times.
 pub scalable : (x : ℤ) (k : ℕ) → Fits64 x → k ≤ 2 ^ 16 → Within (2 ^ 31) x → Within (2 ^ 62) (pos k *ℤ stored x)
@@ -43,24 +58,3 @@ pub worth_is : (x r : ℤ) {v : ℤ} → Fits64 x → (x ≡ v) × Within (2 ^ 3
 worth_is x r hx p q =
     let e = stored_is x hx in
     (q.0 ∙ ap half_points (e ∙ p.0), omega (arith, q.1, p.1, ap up e, ap dn e))
-
--- r is x, which is v, by its mark m.
-pub by_mark : (r x : ℤ) (m : ℕ) {v : ℤ} {n : ℕ} → Fits64 r → Fits64 x → (x ≡ v) × Within n x → n ≤ 2 ^ 48 →
-    (r ≡ pos m *ℤ stored x) × Within (up (stored x) + dn (stored x)) r → (stored r ≡ pos m *ℤ v) × Within (2 ^ 48) (stored r)
-by_mark r x m hr hx p l q =
-    let e = stored_is x hx in
-    let w : Within (2 ^ 48) r = omega (arith, q.1, p.1, ap up e, ap dn e) in
-    stored_both r hr (q.0 ∙ ap (λ (z : ℤ). pos m *ℤ z) (e ∙ p.0)) w
-
--- r is z times what l leaves of k, by the two products a and b.
-pub rested : (r a b z : ℤ) (k l : ℕ) → Fits64 r → (stored a ≡ pos k *ℤ z) × Within (2 ^ 47) (stored a) →
-    (stored b ≡ pos l *ℤ z) × Within (2 ^ 47) (stored b) → r ≡ stored a -ℤ stored b → (stored r ≡ z *ℤ (pos k -ℤ pos l)) × Within (2 ^ 48) (stored r)
-rested r a b z k l hr p q e =
-    stored_both r hr (e ∙ ap₂ ◌-ℤ◌ p.0 q.0 ∙ times_rest z k l)
-    (subst (λ (y : ℤ). Within (2 ^ 48) y) (sym e) (within-diff (stored a) (stored b) p.1 q.1))
-
--- The same of a call's result r, whose price x is z, most k is a, and use l is b.
-pub rest_held : (r x : ℤ) (l : ℕ) {z a : ℤ} {b k : ℕ} → Fits64 r → Fits64 x → x ≡ z → pos k ≡ a → l ≡ b →
-    (r ≡ stored x *ℤ (pos k -ℤ pos l)) × Within (2 ^ 48) r → (stored r ≡ z *ℤ (a -ℤ pos b)) × Within (2 ^ 48) (stored r)
-rest_held r x l hr hx e f g p =
-    stored_both r hr (p.0 ∙ ap₂ ◌*ℤ◌ (stored_is x hx ∙ e) (ap₂ (λ (c : ℤ) (d : ℕ). c -ℤ pos d) f g)) p.1

@@ -19,7 +19,7 @@ pub fn price_of_rest(price: i64, most: u32, used: u32) -> i64
     requires { (most ≤ 2 ^ 16) × (used ≤ 2 ^ 16) × Within (2 ^ 31) price }
     ensures { (result ≡ price *ℤ (pos most -ℤ pos used)) × Within (2 ^ 48) result }
 {
-    integers::subtract(integers::scale(most, price), integers::scale(used, price))
+    price * (i64::from(most) - i64::from(used))
 }
 
 // What an edge's cover exceeds its worth by where it is chosen, else 0. The weight may be negative.
@@ -28,10 +28,8 @@ pub fn excess(cover: i64, weight: &[i32], chosen: &[u8], e: usize) -> i64
     requires e_in_bounds { (e < length weight.now) × (e < length chosen.now) × (mark_at chosen.now e ≤ 1) }
     ensures { (result ≡ pos (mark_at chosen.now e) *ℤ (cover -ℤ half_points (get_or weight.now e (pos 0)))) × Within (2 ^ 48) result }
 {
-    let own = integers::element(weight, e);
-    let worth = dual::half_points(own);
-    let over = integers::subtract(cover, worth);
-    integers::if_chosen(chosen[e], over)
+    let worth = dual::half_points(integers::element(weight, e));
+    if chosen[e] == 1 { cover - worth } else { 0 }
 }
 
 // Whether an edge's cover reaches its worth, its weight in half points.
@@ -39,9 +37,7 @@ pub fn is_covered(weight: &[i32], e: usize, cover: i64) -> bool
     requires { e < length weight.now }
     ensures { result ≡ le_z (half_points (get_or weight.now e (pos 0))) cover }
 {
-    let own = integers::element(weight, e);
-    let worth = dual::half_points(own);
-    integers::at_most(worth, cover)
+    dual::half_points(integers::element(weight, e)) <= cover
 }
 
 // The parts of a total, those of vertices, of odd sets and of edges, added up.
@@ -49,7 +45,7 @@ pub fn total_parts(vertices: i64, odd: i64, own: i64) -> i64
     requires { Within (2 ^ 58) vertices × Within (2 ^ 58) odd × Within (2 ^ 58) own }
     ensures { (result ≡ vertices +ℤ odd +ℤ own) × Within (2 ^ 60) result }
 {
-    integers::add(integers::add(vertices, odd), own)
+    vertices + odd + own
 }
 
 // The gap: a total less a weight in half points.
@@ -57,6 +53,5 @@ pub fn gap_between(total: i64, weight: i64) -> i64
     requires { Within (2 ^ 60) total × Within (2 ^ 58) weight }
     ensures { result ≡ total -ℤ half_points weight }
 {
-    let worth = dual::half_points(weight);
-    integers::subtract(total, worth)
+    total - dual::half_points(weight)
 }

@@ -1,5 +1,6 @@
 -- The cursor's next line is the first of the lines that are left, and the cursor after it has the others.
-use mathlib.Core.Path.{◌≡◌, refl, sym, ap, ap₂, ◌∙◌}
+use Rattle.std.specs.Prelude.{None, Some}
+use mathlib.Core.Path.{◌≡◌, refl, sym, subst}
 use mathlib.Core.Bool.{Bool, true, false, cond}
 use mathlib.Core.List.{List, ◌∷◌}
 use Prim.Native.Nat.{ℕ, ◌+◌, ◌-◌, ◌≤◌, ◌<◌}
@@ -7,12 +8,11 @@ use native.Mathlib.Omega.{arith}
 use lib.Dec.{ltb}
 use borrow.Author.Tests.{ltb-true, ltb-false}
 use lib.ListN.{length, take, drop, length-drop}
-use Rattle.graph.proofs.Passing.{zero_one}
+use Rattle.layout.proofs.Digits.{absent}
 use Rattle.layout.specs.Text.{lines}
-use Rattle.text.specs.Cursor.{in_line, past, next_line}
+use Rattle.text.specs.Cursor.{in_line, past, line_at, next_line}
 use Rattle.text.specs.declared.Cursor.{Cursor}
 use Rattle.text.specs.declared.Line.{Line}
-use Rattle.text.specs.declared.Line.TheVariants as Line
 use Rattle.text.proofs.Scans.{run-le}
 use Rattle.text.proofs.Pieces.{lines-some}
 
@@ -26,37 +26,28 @@ pub record Lined (s : List ℕ) (c : Cursor) (a e : ℕ) (d : Cursor) : Type 0 w
   pub next-line : d.line ≡ c.line + 1
   pub front : lines (drop c.at s) ≡ take (e - a) (drop a s) ∷ lines (drop d.at s)
 
-module _ (s : List ℕ) (c : Cursor) (r : Line) (is : r ≡ next_line s c) where
-  abbrev end : ℕ
-  end = past in_line s c.at
-
-  abbrev after : Cursor
-  after = record { at = end + 1; line = c.line + 1 }
-
-  pub done : r ≡ Line.Done → length s ≤ c.at
-  done h = go (ltb c.at (length s)) refl is
+module _ (s : List ℕ) (c : Cursor) where
+  pub done : None ≡ next_line s c → length s ≤ c.at
+  done h = go (ltb c.at (length s)) refl h
     where
-      go : (b : Bool) → ltb c.at (length s) ≡ b → r ≡ cond b (Line.Part c.at end after) Line.Done → length s ≤ c.at
-      go true e q = zero_one (cc)
+      go : (b : Bool) → ltb c.at (length s) ≡ b → None ≡ cond b (Some (line_at s c)) None → length s ≤ c.at
+      go true e q = absent q
       go false e q = ltb-false c.at (length s) e
 
-  pub lined : (a e : ℕ) (d : Cursor) → r ≡ Line.Part a e d → Lined s c a e d
-  lined a e d h = go (ltb c.at (length s)) refl is
+  pub lined : (l : Line) → Some l ≡ next_line s c → Lined s c l.start l.end l.next
+  lined l h = go (ltb c.at (length s)) refl h
     where
-      go : (b : Bool) → ltb c.at (length s) ≡ b → r ≡ cond b (Line.Part c.at end after) Line.Done → Lined s c a e d
-      go false t q = zero_one (cc)
+      go : (b : Bool) → ltb c.at (length s) ≡ b → Some l ≡ cond b (Some (line_at s c)) None → Lined s c l.start l.end l.next
+      go false t q = absent (sym q)
       go true t q =
           let lt : c.at < length s = ltb-true c.at (length s) t in
-          let qa : a ≡ c.at = cc in
-          let qe : e ≡ end = cc in
-          let qd : d ≡ after = cc in
-          let da : d.at ≡ e + 1 = ap (λ (x : Cursor). x.at) qd ∙ ap (λ (n : ℕ). n + 1) (sym qe) in
-          record {
+          let e : l ≡ line_at s c = cc in
+          subst (λ (x : Line). Lined s c x.start x.end x.next) (sym e) (record {
             more = lt;
-            starts = qa;
+            starts = refl;
             forward = omega arith;
             inside = omega (arith, run-le in_line (drop c.at s), length-drop c.at s);
-            next-at = da;
-            next-line = ap (λ (x : Cursor). x.line) qd;
-            front = lines-some s c.at e lt qe ∙ ap₂ (λ (j k : ℕ). take (e - j) (drop j s) ∷ lines (drop k s)) (sym qa) (sym da);
-          }
+            next-at = refl;
+            next-line = refl;
+            front = lines-some s c.at (past in_line s c.at) lt refl;
+          })

@@ -9,7 +9,7 @@ use borrow.Author.Tests.{eq-eqb, ne_eqb}
 use Rattle.graph.proofs.Passing.{zero_one}
 use lib.ListN.{length, take, drop, get_or, drop_of_length-le, length-take, length-drop}
 use lib.Seq.{drop-cons, drop-drop}
-use Rattle.layout.specs.Text.{blank, newline, pieces, on_first, non_empty, lines, words, no_words, begins, starts_with}
+use Rattle.layout.specs.Text.{blank, newline, pieces, on_first, non_empty, lines, words, no_words, begins}
 use Rattle.text.proofs.Scans.{run-le}
 use Rattle.text.specs.Cursor.{run, in_line, in_word, past, word_at, first_word, past_word}
 
@@ -174,16 +174,6 @@ module _ (l : List ℕ) (at : ℕ) where
           ne_eqb a (length l) (λ e. zero_one (omega (arith, long, ap length is)))
           ∙ ap no_words (sym (to_word ∙ ap words is ∙ words-first y ys (no_blank y ys is)))
 
--- The word that begins at s and ends at e.
-module _ (l : List ℕ) (s e : ℕ) (le : s ≤ length l) (ee : e ≡ past in_word l s) where
-  pub word_part : take (e - s) (drop s l) ≡ word_at l s
-  word_part = let k : e - s ≡ run in_word (drop s l) = omega arith in ap (λ j. take j (drop s l)) k
-
-  pub word_inside : s + length (take (e - s) (drop s l)) ≤ length l
-  word_inside =
-      let k : length (take (e - s) (drop s l)) ≤ length l - s = simp (length-take, length-drop) (omega arith) in
-      omega arith
-
 -- The word that begins a line is its first.
 pub word_begins : (l : List ℕ) → begins l ≡ true → (w : List ℕ) → w ≡ word_at l 0 → words l ≡ w ∷ words (drop (length w) l)
 word_begins [] h w is = zero_one (cc)
@@ -195,12 +185,3 @@ word_begins (x ∷ xs) h w is =
     go : (b : Bool) → not b ≡ true → b ≡ false
     go true e = zero_one (cc)
     go false e = refl
-
--- The first byte of a line.
-pub starts-empty : (b : ℕ) (l : List ℕ) → length l ≡ 0 → starts_with b l ≡ false
-starts-empty b [] h = refl
-starts-empty b (x ∷ l) h = zero_one (omega arith)
-
-pub starts-at : (b : ℕ) (l : List ℕ) → (length l ≡ 0 → ⊥) → eqb (get_or l 0 0) b ≡ starts_with b l
-starts-at b [] ne = absurd (ne refl)
-starts-at b (x ∷ l) ne = refl

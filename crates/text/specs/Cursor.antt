@@ -1,20 +1,8 @@
 -- What the functions on lines and words yield, where positions in a text or a line are part of it, and what their answers say.
-use Rattle.std.specs.Prelude.{ℕ, suc, ◌+◌, Bool, not, cond, List, [], ◌∷◌, ltb, ℤ, length, take, drop}
-use Rattle.std.proofs.Math.Option.{Option, none, some, map}
+use Rattle.std.specs.Prelude.{ℕ, suc, ◌+◌, Bool, not, cond, List, [], ◌∷◌, ltb, length, take, drop, Option, None, Some, option_map}
 use Rattle.layout.specs.Text.{newline, blank, words}
 use Rattle.text.specs.declared.Cursor.{Cursor}
 use Rattle.text.specs.declared.Line.{Line}
-use Rattle.text.specs.declared.Line.TheVariants.{Part, Done}
-use Rattle.text.specs.declared.NextNatural.{NextNatural}
-use Rattle.text.specs.declared.NextNatural.TheVariants as NextNatural
-use Rattle.text.specs.declared.NextInteger.{NextInteger}
-use Rattle.text.specs.declared.NextInteger.TheVariants as NextInteger
-use Rattle.text.specs.declared.Pair.{Pair}
-use Rattle.text.specs.declared.Pair.TheVariants as Pair
-use Rattle.text.specs.declared.Triple.{Triple}
-use Rattle.text.specs.declared.Triple.TheVariants as Triple
-use Rattle.text.specs.declared.EdgeLine.{EdgeLine}
-use Rattle.text.specs.declared.EdgeLine.TheVariants as EdgeLine
 
 -- How many bytes stand before the first for which p does not hold.
 unfoldable pub run : (ℕ → Bool) → List ℕ → ℕ
@@ -33,11 +21,15 @@ abbrev pub in_word : ℕ → Bool
 in_word x = not (blank x)
 
 -- The line at a cursor, up to its byte 10 or the end of the text, and the cursor after it.
-abbrev pub next_line : List ℕ → Cursor → Line
-next_line s c =
-    cond (ltb c.at (length s))
-    (Part c.at (past in_line s c.at) (record { at = past in_line s c.at + 1; line = c.line + 1 }))
-    Done
+abbrev pub line_at : List ℕ → Cursor → Line
+line_at s c = record {
+  start = c.at;
+  end = past in_line s c.at;
+  next = record { at = past in_line s c.at + 1; line = c.line + 1 };
+}
+
+abbrev pub next_line : List ℕ → Cursor → Option Line
+next_line s c = cond (ltb c.at (length s)) (Some (line_at s c)) None
 
 -- The word that begins at a place.
 abbrev pub word_at : List ℕ → ℕ → List ℕ
@@ -54,25 +46,4 @@ past_word l at = past in_word l (past blank l at)
 
 -- The first word of a line from a cursor on, as f reads it, and the cursor after it.
 unfoldable pub next : {A : Type 0} → (List ℕ → Option A) → List ℕ → Cursor → Option (A × Cursor)
-next f l c = map (λ a. (a, record { at = past_word l c.at; line = c.line })) (f (first_word (words (drop c.at l))))
-
--- What the answers say.
-abbrev pub next_natural_says : NextNatural → Option (ℕ × Cursor)
-next_natural_says (NextNatural.Is n c) = some (n, c)
-next_natural_says NextNatural.Bad = none
-
-abbrev pub next_integer_says : NextInteger → Option (ℤ × Cursor)
-next_integer_says (NextInteger.Is z c) = some (z, c)
-next_integer_says NextInteger.Bad = none
-
-abbrev pub pair_says : Pair → Option (ℕ × ℕ)
-pair_says (Pair.Is a b) = some (a, b)
-pair_says Pair.Bad = none
-
-abbrev pub triple_says : Triple → Option (ℕ × ℕ × ℕ)
-triple_says (Triple.Is a b c) = some (a, b, c)
-triple_says Triple.Bad = none
-
-abbrev pub edge_line_says : EdgeLine → Option (ℕ × ℕ × ℤ)
-edge_line_says (EdgeLine.Is row column weight) = some (row, column, weight)
-edge_line_says EdgeLine.Bad = none
+next f l c = option_map (λ a. (a, record { at = past_word l c.at; line = c.line })) (f (first_word (words (drop c.at l))))

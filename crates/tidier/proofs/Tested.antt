@@ -1,18 +1,17 @@
 -- What the call yields, by the first test that refuses; and that the tidy order is one to write a graph in.
+use Rattle.graph.specs.Refusal.{Outcome}
+use Rattle.std.specs.Prelude.{Ok, Err}
 use Prim.Native.Nat.{ℕ}
-use mathlib.Core.Path.{◌≡◌, sym, ap, ◌∙◌, subst}
+use mathlib.Core.Path.{◌≡◌, sym, ◌∙◌, subst}
 use mathlib.Core.Bool.{true}
 use mathlib.Core.List.{List}
 use lib.Dec.{eqb}
 use borrow.Author.Tests.{eqb-true}
 use Rattle.graph.specs.declared.Refusal.{Refusal}
 use Rattle.graph.specs.Limits.{longest_text}
-use Rattle.graph.specs.Refusal.{yields, refuses, passing}
+use Rattle.graph.specs.Refusal.{refuses, passing}
 use Rattle.graph.specs.Graph.{Graph}
 use Rattle.graph.specs.Passed.{Passed}
-use Rattle.checks.specs.declared.Check.{Check}
-use Rattle.checks.specs.declared.Check.TheVariants as Check
-use Rattle.checks.specs.Checks.{check_says}
 use Rattle.checks.proofs.Refusals.{checked_passed, checked_refused}
 use Rattle.lent.proofs.Lengths.{lent_passed}
 use Rattle.layout.specs.GraphText.{graph_text}
@@ -23,14 +22,14 @@ use Rattle.writer.specs.Written.{Written}
 use Rattle.graph_writer.specs.Order.{Ordered}
 
 -- The tests have answered r.
-module _ (g : Graph) (n : ℕ) {r : Check} (says : check_says r ≡ passing (tidy_tests g n) (yields tt)) where
-  pub refused : {f : Refusal} → r ≡ Check.Refused f → tidy_graph g n ≡ refuses f.fault f.place
+module _ (g : Graph) (n : ℕ) {r : (Outcome (Unit {0}))} (says : r ≡ passing (tidy_tests g n) (Ok tt)) where
+  pub refused : {f : Refusal} → r ≡ Err f → tidy_graph g n ≡ refuses f.fault f.place
   unfolding tidy_graph
-  refused is = checked_refused (tidy_tests g n) (yields (tidy_text g)) says is
+  refused is = checked_refused (tidy_tests g n) (Ok (tidy_text g)) says is
 
-  module _ (is : r ≡ Check.Passed) where
+  module _ (is : r ≡ (Ok tt)) where
     shown : Passed g × (eqb n longest_text ≡ true)
-    shown = lent_passed g (eqb n longest_text) (yields tt) tt (sym says ∙ ap check_says is)
+    shown = lent_passed g (eqb n longest_text) (Ok tt) tt (sym says ∙ is)
 
     pub passed : Passed g
     passed = shown.0
@@ -38,9 +37,9 @@ module _ (g : Graph) (n : ℕ) {r : Check} (says : check_says r ≡ passing (tid
     pub size : n ≡ longest_text
     size = eqb-true n longest_text shown.1
 
-    pub yielded : tidy_graph g n ≡ yields (tidy_text g)
+    pub yielded : tidy_graph g n ≡ Ok (tidy_text g)
     unfolding tidy_graph
-    yielded = checked_passed (tidy_tests g n) (yields (tidy_text g)) says is
+    yielded = checked_passed (tidy_tests g n) (Ok (tidy_text g)) says is
 
 -- The edges in tidy order are an order that they may be written in, also from the front of the array that it came back in.
 module _ {g : Graph} (P : Passed g) {order : List ℕ} (is : order ≡ tidy_order g) where

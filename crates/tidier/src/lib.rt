@@ -6,13 +6,10 @@ ghost use Rattle.graph.specs.Limits.{longest_text};
 ghost use Rattle.graph.specs.Refusal.{told, reported, output};
 ghost use Rattle.graph.specs.Graph.{graph_of};
 ghost use Rattle.graph.specs.Passed.{Passed};
-ghost use Rattle.layout.specs.Answers.{text_says};
 ghost use Rattle.layout.specs.TidyText.{tidy_text, tidy_graph};
 ghost use Rattle.writer.specs.Written.{Written};
 
-use checks::Check;
-use graph::{LONGEST_TEXT, MOST_EDGES, Shape};
-use layout::TextAnswer;
+use graph::{LONGEST_TEXT, MOST_EDGES, Refusal, Shape};
 
 // Writes the tidy text of a graph that has passed the tests to `out`, 0 after its end. The result is its length.
 fn put_tidy(s: Shape, row: &[u32], column: &[u32], weight: &[i32], out: &mut [u8]) -> usize
@@ -33,15 +30,11 @@ pub fn tidy_graph(
     column: &[u32],
     weight: &[i32],
     out: &mut [u8],
-) -> TextAnswer
-    ensures answer { text_says result ≡ told (reported length (tidy_graph (graph_of s row.now column.now weight.now) (length out.old))) }
+) -> Result<usize, Refusal>
+    ensures answer { result ≡ reported length (tidy_graph (graph_of s row.now column.now weight.now) (length out.old)) }
     ensures text { out.new ≡ output (length out.old) 0 (λ t. t) (tidy_graph (graph_of s row.now column.now weight.now) (length out.old)) }
 {
     let long = out.len() == LONGEST_TEXT;
-    if let Check::Refused(r) = lent::check_lent(s, row, column, weight, long) {
-        filling::clear_bytes(out);
-        return TextAnswer::Refused(r);
-    }
-    let length = put_tidy(s, row, column, weight, out);
-    TextAnswer::Written(length)
+    writer::or_clear(lent::check_lent(s, row, column, weight, long), out)?;
+    Ok(put_tidy(s, row, column, weight, out))
 }

@@ -8,9 +8,9 @@ use files::FILE_BYTES;
 use graph::LONGEST_TEXT;
 
 fn main(rt: HostRuntime) {
-    let mut sheet = [0u8; FILE_BYTES];
-    let n = files::read(&rt, b"sheet.mtx", &mut sheet);
+    let mut sheet_buffer = [0u8; FILE_BYTES];
+    let sheet = files::read(&rt, b"sheet.mtx", &mut sheet_buffer);
     let mut out = [0u8; LONGEST_TEXT];
-    let length = output::tidy_output(&sheet[..n], &mut out);
-    files::write(&rt, &out, length);
+    let length = output::tidy_output(sheet, &mut out);
+    files::write(&rt, &out[..length]);
 }

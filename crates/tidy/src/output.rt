@@ -6,7 +6,6 @@ ghost use Rattle.report.specs.Report.{Composed};
 ghost use Rattle.report.specs.Programs.{written, tidy_run, tidy_output, whole_text_room};
 
 use graph::{LONGEST_TEXT, MOST_EDGES, Shape};
-use layout::{GraphAnswer, TextAnswer};
 use report::Source;
 
 // Writes the tidy text of a graph that has been read, or the call's refusal, to `out`, 0 after its end. The result is its length.
@@ -15,8 +14,8 @@ fn tidy_read(s: Shape, row: &[u32], column: &[u32], weight: &[i32], out: &mut [u
     ensures { Composed whole_text_room (written (λ text. text) (tidy_run (graph_of s row.now column.now weight.now))) out.old out.new result }
 {
     match tidier::tidy_graph(s, row, column, weight, out) {
-        TextAnswer::Written(length) => length,
-        TextAnswer::Refused(refusal) => report::put_refused(out, Source::Input, refusal),
+        Ok(length) => length,
+        Err(refusal) => report::put_refused(out, Source::Input, refusal),
     }
 }
 
@@ -27,15 +26,15 @@ pub fn tidy_output(sheet: &[u8], out: &mut [u8]) -> usize
     ensures composed { Composed whole_text_room (tidy_output sheet.now) out.old out.new result }
 {
     if out.len() != LONGEST_TEXT {
-        filling::clear_bytes(out);
+        filling::fill(out, 0);
         return 0;
     }
     let mut row = [0u32; MOST_EDGES];
     let mut column = [0u32; MOST_EDGES];
     let mut weight = [0i32; MOST_EDGES];
     match graph_reader::read_graph(sheet, &mut row, &mut column, &mut weight) {
-        GraphAnswer::Refused(refusal) => report::put_refused(out, Source::Sheet, refusal),
-        GraphAnswer::Graph(s) => {
+        Err(refusal) => report::put_refused(out, Source::Sheet, refusal),
+        Ok(s) => {
             let m = s.edges as usize;
             tidy_read(s, &row[..m], &column[..m], &weight[..m], out)
         }

@@ -1,9 +1,9 @@
 -- A text of a subgraph (plan) is read alike for two graphs that are the same sheet.
+use Rattle.std.specs.Prelude.{Option, None, Some, option_map, Ok}
 use Prim.Native.Nat.{ℕ, ◌+◌}
 use mathlib.Core.Path.{◌≡◌, refl, sym, ap, ap₂, ◌∙◌, subst₂}
 use mathlib.Core.Bool.{Bool, true, false, cond, ◌&&◌, ◌||◌}
 use mathlib.Core.List.{List, [], ◌∷◌}
-use mathlib.Core.Option.{Option, none, some, map}
 use native.Mathlib.Omega.{arith}
 use native.Mathlib.Decide.{ℕ_discrete}
 use lib.Dec.{leb, eqb, ltb}
@@ -13,7 +13,7 @@ use borrow.Author.Tests.{eq-eqb}
 use Rattle.graph.specs.declared.Kind.{Kind}
 use Rattle.graph.specs.declared.Fault.{Fault}
 use Rattle.graph.specs.declared.Fault.TheVariants.{LaterLine, LentLength, TextLength, Disagreement}
-use Rattle.graph.specs.Refusal.{Outcome, yields, refuses, once, passing}
+use Rattle.graph.specs.Refusal.{Outcome, refuses, once, passing}
 use Rattle.graph.specs.Graph.{Graph, row_at, column_at, weight_at, sizes_in_range, ends_in_range}
 use Rattle.graph.specs.Subgraph.{mark_at}
 use Rattle.graph.specs.Tests.{graph_lengths, graph_tests}
@@ -44,7 +44,7 @@ pub data StateAlike {H B C : Type 0} (Q : B → C → Type 0) : State H B → St
 
 -- Results that are related are yielded, or the same is refused.
 pub data OutcomeAlike {R S : Type 0} (P : R → S → Type 0) : Outcome R → Outcome S → Type 0 where
-  both_yield : {r : R} {s : S} → P r s → OutcomeAlike P (yields r) (yields s)
+  both_yield : {r : R} {s : S} → P r s → OutcomeAlike P (Ok r) (Ok s)
   both_refuse : {f : Fault} {k : ℕ} → OutcomeAlike P (refuses f k) (refuses f k)
 
 -- Two layouts do alike at every line, where Q relates what they have read since the size line and P their results.
@@ -88,7 +88,7 @@ module _ {H B C R S : Type 0} {L : Layout H B R} {M : Layout H C S} {Q : B → C
   end_alike both_sizing k = both_refuse
   end_alike (both_reading {b} {c} q) k = go (L.more b) (M.more c) (A.more q)
     where
-      go : (t u : Bool) → t ≡ u → OutcomeAlike P (cond t (refuses LaterLine k) (yields (L.result b))) (cond u (refuses LaterLine k) (yields (M.result c)))
+      go : (t u : Bool) → t ≡ u → OutcomeAlike P (cond t (refuses LaterLine k) (Ok (L.result b))) (cond u (refuses LaterLine k) (Ok (M.result c)))
       go true true e = both_refuse
       go false false e = both_yield (A.result q)
       go true false e = zero_one (cc)
@@ -109,41 +109,41 @@ module _ {H B C R S : Type 0} {L : Layout H B R} {M : Layout H C S} {Q : B → C
 
 -- Both graphs have an edge there, or neither.
 data EdgesAt (g h : Graph) (r c : ℕ) : Type 0 where
-  no_edge : edge_with g r c ≡ none → edge_with h r c ≡ none → EdgesAt g h r c
-  an_edge : (e d : ℕ) → edge_with g r c ≡ some e → edge_with h r c ≡ some d → EdgesAt g h r c
+  no_edge : edge_with g r c ≡ None → edge_with h r c ≡ None → EdgesAt g h r c
+  an_edge : (e d : ℕ) → edge_with g r c ≡ Some e → edge_with h r c ≡ Some d → EdgesAt g h r c
 
 edges_at : {g h : Graph} → SameSheet g h → (r c : ℕ) → EdgesAt g h r c
 edges_at {g} {h} S r c = go (edge_with g r c) (edge_with h r c) refl refl (S.weights r c)
   where
-    go : (o p : Option ℕ) → edge_with g r c ≡ o → edge_with h r c ≡ p → map (weight_at g) o ≡ map (weight_at h) p → EdgesAt g h r c
-    go none none i j e = no_edge i j
-    go (some a) (some b) i j e = an_edge a b i j
-    go none (some b) i j e = zero_one (cc)
-    go (some a) none i j e = zero_one (cc)
+    go : (o p : Option ℕ) → edge_with g r c ≡ o → edge_with h r c ≡ p → option_map (weight_at g) o ≡ option_map (weight_at h) p → EdgesAt g h r c
+    go None None i j e = no_edge i j
+    go (Some a) (Some b) i j e = an_edge a b i j
+    go None (Some b) i j e = zero_one (cc)
+    go (Some a) None i j e = zero_one (cc)
 
 -- The same pairs of ends are chosen just where the two edges at each have equal marks.
 module _ (g h : Graph) (x y : List ℕ) where
-  chosen_at : SameChosen g x h y → (r c e d : ℕ) → edge_with g r c ≡ some e → edge_with h r c ≡ some d → mark_at x e ≡ mark_at y d
+  chosen_at : SameChosen g x h y → (r c e d : ℕ) → edge_with g r c ≡ Some e → edge_with h r c ≡ Some d → mark_at x e ≡ mark_at y d
   chosen_at C r c e d i j =
-      let k : ◌≡◌ {A = Option ℕ} (some (mark_at x e)) (some (mark_at y d)) =
-      sym (ap (map (mark_at x)) i) ∙ C r c ∙ ap (map (mark_at y)) j in
+      let k : ◌≡◌ {A = Option ℕ} (Some (mark_at x e)) (Some (mark_at y d)) =
+      sym (ap (option_map (mark_at x)) i) ∙ C r c ∙ ap (option_map (mark_at y)) j in
       cc
 
-  at_chosen : SameSheet g h → ((r c e d : ℕ) → edge_with g r c ≡ some e → edge_with h r c ≡ some d → mark_at x e ≡ mark_at y d) → SameChosen g x h y
+  at_chosen : SameSheet g h → ((r c e d : ℕ) → edge_with g r c ≡ Some e → edge_with h r c ≡ Some d → mark_at x e ≡ mark_at y d) → SameChosen g x h y
   at_chosen S m r c = elim (edges_at S r c) [
-    | no_edge i j ↦ ap (map (mark_at x)) i ∙ sym (ap (map (mark_at y)) j)
-    | an_edge e d i j ↦ ap (map (mark_at x)) i ∙ ap some (m r c e d i j) ∙ sym (ap (map (mark_at y)) j)
+    | no_edge i j ↦ ap (option_map (mark_at x)) i ∙ sym (ap (option_map (mark_at y)) j)
+    | an_edge e d i j ↦ ap (option_map (mark_at x)) i ∙ ap Some (m r c e d i j) ∙ sym (ap (option_map (mark_at y)) j)
   ]
 
 -- An edge has one pair of ends: if one graph has the same edge at two pairs, so has the other.
-same-edge : (g h : Graph) (r c a b e d n k : ℕ) → edge_with g r c ≡ some e → edge_with h r c ≡ some d → edge_with g a b ≡ some n → edge_with h a b ≡ some k → n ≡ e
+same-edge : (g h : Graph) (r c a b e d n k : ℕ) → edge_with g r c ≡ Some e → edge_with h r c ≡ Some d → edge_with g a b ≡ Some n → edge_with h a b ≡ Some k → n ≡ e
     → k ≡ d
 same-edge g h r c a b e d n k i j u v same =
     let p = edge_some g r c e i in
     let q = edge_some g a b n u in
     let rows : a ≡ r = sym q.row ∙ ap (row_at g) same ∙ p.row in
     let columns : b ≡ c = sym q.column ∙ ap (column_at g) same ∙ p.column in
-    let w : ◌≡◌ {A = Option ℕ} (some k) (some d) = sym v ∙ ap₂ (edge_with h) rows columns ∙ j in
+    let w : ◌≡◌ {A = Option ℕ} (Some k) (Some d) = sym v ∙ ap₂ (edge_with h) rows columns ∙ j in
     cc
 
 -- ---- the lines of a subgraph's text
@@ -158,8 +158,8 @@ pub record MarkedAlike (g h : Graph) (b d : Marked) : Type 0 where
 
 module _ {g h : Graph} (S : SameSheet g h) where
   header-alike : (o : Option Kind) → subgraph_header g o ≡ subgraph_header h o
-  header-alike none = refl
-  header-alike (some kind) = λ i. cond (kinds_agree kind (S.kind i)) (goes tt) (stops Disagreement)
+  header-alike None = refl
+  header-alike (Some kind) = λ i. cond (kinds_agree kind (S.kind i)) (goes tt) (stops Disagreement)
 
   none_chosen : SameChosen g (replicate g.edges 0) h (replicate h.edges 0)
   none_chosen =
@@ -167,8 +167,8 @@ module _ {g h : Graph} (S : SameSheet g h) where
       (λ r c e d i j. get_or-replicate g.edges e 0 0 (edge_some g r c e i).among ∙ sym (get_or-replicate h.edges d 0 0 (edge_some h r c d j).among))
 
   sizes_alike : (o : Option (ℕ × ℕ × ℕ)) → StepAlike (MarkedAlike g h) (subgraph_sizes g o) (subgraph_sizes h o)
-  sizes_alike none = both_stop
-  sizes_alike (some (r, c, n)) =
+  sizes_alike None = both_stop
+  sizes_alike (Some (r, c, n)) =
       tested (sizes_in_range g.kind r c n) (sizes_in_range h.kind r c n) (ap (λ k. sizes_in_range k r c n) S.kind)
       (tested (eqb r g.rows && eqb c g.columns && leb n g.edges) (eqb r h.rows && eqb c h.columns && leb n h.edges)
       (λ i. eqb r (S.rows i) && eqb c (S.columns i) && leb n (S.edges i))
@@ -183,11 +183,11 @@ module _ {g h : Graph} (S : SameSheet g h) where
       both_stop
 
   -- To set the marks of the two edges at a pair of ends keeps the same pairs chosen.
-  set-chosen : (x y : List ℕ) → length x ≡ g.edges → length y ≡ h.edges → SameChosen g x h y → (r c e d : ℕ) → edge_with g r c ≡ some e → edge_with h r c ≡ some d
+  set-chosen : (x y : List ℕ) → length x ≡ g.edges → length y ≡ h.edges → SameChosen g x h y → (r c e d : ℕ) → edge_with g r c ≡ Some e → edge_with h r c ≡ Some d
       → SameChosen g (set x e 1) h (set y d 1)
   set-chosen x y long other_long C r c e d i j = at_chosen g h (set x e 1) (set y d 1) S marks
     where
-      marks : (a b n k : ℕ) → edge_with g a b ≡ some n → edge_with h a b ≡ some k → mark_at (set x e 1) n ≡ mark_at (set y d 1) k
+      marks : (a b n k : ℕ) → edge_with g a b ≡ Some n → edge_with h a b ≡ Some k → mark_at (set x e 1) n ≡ mark_at (set y d 1) k
       marks a b n k u v = elim (ℕ_discrete n e) [
         | yes same ↦
             ap (mark_at (set x e 1)) same
@@ -217,8 +217,8 @@ module _ {g h : Graph} (S : SameSheet g h) where
   ]
 
   edge_alike : {b d : Marked} → MarkedAlike g h b d → (o : Option (ℕ × ℕ)) → StepAlike (MarkedAlike g h) (subgraph_edge g b o) (subgraph_edge h d o)
-  edge_alike A none = both_stop
-  edge_alike A (some (r, c)) =
+  edge_alike A None = both_stop
+  edge_alike A (Some (r, c)) =
       tested (ends_in_range g.kind g.rows g.columns r c) (ends_in_range h.kind h.rows h.columns r c)
       (λ i. ends_in_range (S.kind i) (S.rows i) (S.columns i) r c) (mark_alike A r c) both_stop
 

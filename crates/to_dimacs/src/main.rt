@@ -8,11 +8,11 @@ use files::FILE_BYTES;
 use graph::LONGEST_TEXT;
 
 fn main(rt: HostRuntime) {
-    let mut sheet = [0u8; FILE_BYTES];
-    let s = files::read(&rt, b"sheet.mtx", &mut sheet);
-    let mut limits = [0u8; FILE_BYTES];
-    let l = files::read(&rt, b"limits.mtx", &mut limits);
+    let mut sheet_buffer = [0u8; FILE_BYTES];
+    let sheet = files::read(&rt, b"sheet.mtx", &mut sheet_buffer);
+    let mut limits_buffer = [0u8; FILE_BYTES];
+    let limits = files::read(&rt, b"limits.mtx", &mut limits_buffer);
     let mut out = [0u8; LONGEST_TEXT];
-    let length = output::to_dimacs_output(&sheet[..s], &limits[..l], &mut out);
-    files::write(&rt, &out, length);
+    let length = output::to_dimacs_output(sheet, limits, &mut out);
+    files::write(&rt, &out[..length]);
 }

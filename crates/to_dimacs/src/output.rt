@@ -6,8 +6,7 @@ ghost use Rattle.report.specs.Report.{Composed};
 ghost use Rattle.report.specs.Programs.{written, to_dimacs_run, to_dimacs_output, whole_text_room};
 
 use graph::{LONGEST_TEXT, MOST_EDGES, MOST_VERTICES, Shape};
-use layout::TextAnswer;
-use problem_reader::ProblemAnswer;
+use problem_reader::SourceRefusal;
 use report::Source;
 
 // Writes the assignment text of a problem that has been read, or the call's refusal, to `out`, 0 after its end. The result is its length.
@@ -23,8 +22,8 @@ fn write_problem(
     ensures { Composed whole_text_room (written (λ text. text) (to_dimacs_run (record { graph = graph_of s row.now column.now weight.now; bound = bound.now }))) out.old out.new result }
 {
     match assignment_writer::write_assignment(s, row, column, weight, bound, out) {
-        TextAnswer::Written(length) => length,
-        TextAnswer::Refused(refusal) => report::put_refused(out, Source::Input, refusal),
+        Ok(length) => length,
+        Err(refusal) => report::put_refused(out, Source::Input, refusal),
     }
 }
 
@@ -35,7 +34,7 @@ pub fn to_dimacs_output(sheet: &[u8], limits: &[u8], out: &mut [u8]) -> usize
     ensures composed { Composed whole_text_room (to_dimacs_output sheet.now limits.now) out.old out.new result }
 {
     if out.len() != LONGEST_TEXT {
-        filling::clear_bytes(out);
+        filling::fill(out, 0);
         return 0;
     }
     let mut row = [0u32; MOST_EDGES];
@@ -50,9 +49,9 @@ pub fn to_dimacs_output(sheet: &[u8], limits: &[u8], out: &mut [u8]) -> usize
         &mut weight,
         &mut bound,
     ) {
-        ProblemAnswer::Refused { source, refusal } => report::put_refused(out, source, refusal),
-        ProblemAnswer::Read(s) => {
-            let n = graph::vertex_count(s) as usize;
+        Err(SourceRefusal { source, refusal }) => report::put_refused(out, source, refusal),
+        Ok(s) => {
+            let n = s.vertex_count() as usize;
             let m = s.edges as usize;
             write_problem(s, &row[..m], &column[..m], &weight[..m], &bound[..n], out)
         }

@@ -1,4 +1,3 @@
-pub mod Put
 pub mod Zeros
 pub mod Writing
 pub mod Lines

@@ -1,10 +1,9 @@
 -- What the writers leave in the bytes that they are lent.
-use Rattle.std.specs.Prelude.{ℕ, ◌≡◌, cond, List, [], ◌∷◌, eqb, length}
+use Rattle.graph.specs.Refusal.{Outcome}
+use Rattle.std.specs.Prelude.{ℕ, ◌≡◌, cond, List, [], ◌∷◌, eqb, length, replicate, Ok, Err}
 use Rattle.graph.specs.Refusal.{filled}
 use Rattle.graph.specs.declared.Shape.{Shape}
 use Rattle.layout.specs.declared.Field.{Field}
-use Rattle.layout.specs.declared.TextAnswer.{TextAnswer}
-use Rattle.layout.specs.declared.TextAnswer.TheVariants as TextAnswer
 use Rattle.layout.specs.Text.{decimal, spaced}
 use Rattle.layout.specs.GraphText.{header_text}
 
@@ -21,7 +20,7 @@ pub record Written (n : ℕ) (xs after : List ℕ) (r : ℕ) : Type 0 where
   pub text : after ≡ filled n 0 xs
   pub size : r ≡ length xs
 
--- An answer tells that a text was written, and its length.
-abbrev pub TextAnswers : ℕ → List ℕ → List ℕ → TextAnswer → Type 0
-TextAnswers n xs after (TextAnswer.Written r) = Written n xs after r
-TextAnswers n xs after (TextAnswer.Refused x) = ⊥
+-- What is left of an output once the tests of a call have answered: after a refusal all of it is 0.
+abbrev pub left_by : Outcome (Unit {0}) → List ℕ → List ℕ
+left_by (Ok u) d = d
+left_by (Err refusal) d = replicate (length d) 0

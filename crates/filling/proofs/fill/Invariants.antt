@@ -1,0 +1,6 @@
+-- The numbers before the index are the value, and the others are as they were.
+use Rattle.std.proofs.Common.{◌≡◌, ◌++◌, replicate, drop}
+use Rattle.filling.proofs.fill.Given as goal
+
+abbrev pub invariant-loop-x : goal.invariant-loop-x
+invariant-loop-x g l = l.out ≡ replicate l.x-index l.value ++ drop l.x-index l.initial.out

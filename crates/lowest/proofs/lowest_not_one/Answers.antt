@@ -1,0 +1,8 @@
+use Rattle.std.proofs.Common.{rules, tests, pos}
+use Rattle.std.proofs.lemmas.Iterator.{YieldsList-from_slice}
+use Rattle.graph.specs.Graph.{bound_is_one}
+use Rattle.lowest.proofs.Found.{lowest_found}
+use Rattle.lowest.proofs.lowest_not_one.Goals as goal
+
+pub returns : goal.returns
+returns c = lowest_found bound_is_one (pos 0) _ _ _ c.position.ensures.ran (YieldsList-from_slice c.args.bound.now cc) (λ x b q k. search (rules, tests))

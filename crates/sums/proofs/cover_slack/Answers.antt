@@ -1,0 +1,11 @@
+-- The sum of what the covers exceed.
+use Rattle.std.proofs.Common.{ℕ, pos, ◌-ℤ◌, ◌*ℤ◌, ◌^◌, get_or, refl, arith, rules}
+use Rattle.dual.specs.Gap.{half_points}
+use Rattle.sums.proofs.Totals.{all_added}
+use Rattle.sums.proofs.cover_slack.Goals as goal
+
+pub returns : goal.returns
+returns c =
+    let a = c.args in
+    let f = λ (e : ℕ). pos (get_or a.chosen.now e 0) *ℤ (get_or a.cover.now e (pos 0) -ℤ half_points (get_or a.weight.now e (pos 0))) in
+    all_added f (2 ^ 48) (2 ^ 58) c.sum_of.result c.sum_of.type_inv (c.sum_of.ensures f (2 ^ 48) (λ i x l p. search rules)) refl (omega arith)

@@ -1,0 +1,32 @@
+-- After a refusal `out` is cleared; otherwise the tidy text is written.
+use Rattle.std.proofs.Common.{◌∙◌, sym, ap, Err, length}
+use Rattle.std.proofs.lemmas.Result.{err_from_is_err_and}
+use Rattle.graph.specs.Graph.{graph_of}
+use Rattle.tidier.proofs.Tested.{refused, passed, size, yielded}
+use Rattle.writer.proofs.Answered.{answered, filled_in, refused_answer, refused_output, left_passed}
+use Rattle.tidier.proofs.tidy_graph.Goals as goal
+
+pub returns-in_err-or_clear : goal.returns-in_err-or_clear
+returns-in_err-or_clear c =
+    let a = c.args in
+    let is = sym c.or_clear.ensures.answer ∙ c.in_err-or_clear.was in
+    let p = err_from_is_err_and c.from_residual.result c.from_residual.ensures.1 in
+    let w = refused (graph_of a.s a.row.now a.column.now a.weight.now) (length a.out.now) c.check_lent.ensures is in
+    record { answer = p.1 ∙ ap Err p.2 ∙ refused_answer w; text = refused_output w a.out.now is c.or_clear.ensures.left }
+
+pub put_tidy-requires : goal.put_tidy-requires
+put_tidy-requires c =
+    let a = c.args in
+    let is = sym c.or_clear.ensures.answer ∙ c.in_ok-or_clear.was in
+    record {
+      passed = passed (graph_of a.s a.row.now a.column.now a.weight.now) (length a.out.now) c.check_lent.ensures is;
+      out_len = ap length (left_passed c.or_clear.ensures.left is) ∙ size (graph_of a.s a.row.now a.column.now a.weight.now) (length a.out.now) c.check_lent.ensures is;
+    }
+
+pub returns : goal.returns
+returns c =
+    let a = c.args in
+    let is = sym c.or_clear.ensures.answer ∙ c.in_ok-or_clear.was in
+    let text = yielded (graph_of a.s a.row.now a.column.now a.weight.now) (length a.out.now) c.check_lent.ensures is in
+    let long = size (graph_of a.s a.row.now a.column.now a.weight.now) (length a.out.now) c.check_lent.ensures is in
+    record { answer = answered text long c.put_tidy.ensures; text = filled_in text long c.put_tidy.ensures }
