@@ -1,7 +1,7 @@
 // The doubled graph of a general graph: its shape, its edges, and the sums of its prices.
 #![tactic(auto)]
 
-ghost use Rattle.std.specs.Prelude.{ℕ, ◌+◌, ◌≤◌, ◌<◌, ◌≡◌, ◌++◌, pos, ◌+ℤ◌, length, get_or};
+ghost use Rattle.std.specs.Prelude.{ℕ, ◌+◌, ◌≤◌, ◌<◌, ◌≡◌, ◌++◌, ◌∷◌, [], pos, ◌+ℤ◌, length, get_or, take};
 ghost use Rattle.graph.specs.declared.Kind.TheVariants.{Bipartite};
 ghost use Rattle.graph.specs.Limits.{most_doubled_edges};
 ghost use Rattle.graph.specs.Doubled.{may_double};
@@ -34,14 +34,23 @@ pub fn doubled_shape(s: Shape) -> Shape
     }
 }
 
+// The item at i of two lists, one after the other.
+fn item_of<T: Copy>(first: &[T], second: &[T], i: usize) -> T
+    requires { i < length first.now + length second.now }
+    ensures { take (i + 1) (first.now ++ second.now) ≡ take i (first.now ++ second.now) ++ result ∷ [] }
+{
+    let n = first.len();
+    if i < n { first[i] } else { second[i - n] }
+}
+
 // Sets `out` to two lists, one after the other.
 pub fn join<T: Copy>(first: &[T], second: &[T], out: &mut [T])
     requires { length out.old ≡ length first.now + length second.now }
     ensures { out.new ≡ first.now ++ second.now }
 {
-    let (front, back) = out.split_at_mut(first.len());
-    front.copy_from_slice(first);
-    back.copy_from_slice(second);
+    for i in 0..out.len() {
+        out[i] = item_of(first, second, i);
+    }
 }
 
 // A price of the solver's in points.

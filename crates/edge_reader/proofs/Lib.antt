@@ -1,3 +1,4 @@
 pub mod Next
 pub mod Edges
 pub mod Whole
+pub mod Costs

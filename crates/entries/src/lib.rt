@@ -2,7 +2,7 @@
 #![tactic(auto)]
 
 ghost use Rattle.std.specs.Prelude.{◌≡◌, option_map};
-ghost use Rattle.layout.specs.Text.{words};
+ghost use Rattle.layout.specs.Text.{words, same};
 ghost use Rattle.layout.specs.AssignmentText.{problem_of, source_of, arc_of, entry_on};
 ghost use Rattle.entries.specs.Entries.{entry_says};
 
@@ -45,6 +45,13 @@ fn arc_on(rest: &[u8]) -> Option<Entry>
     })
 }
 
+// Whether a word is the letter k, in its own case.
+fn is_letter(w: &[u8], k: &[u8]) -> bool
+    ensures { result ≡ same w.now k.now }
+{
+    keywords::same_word(w, k)
+}
+
 // A line by its first word, a letter that begins it.
 pub fn entry_on(line: &[u8]) -> Option<Entry>
     ensures { option_map entry_says result ≡ entry_on line.now }
@@ -55,11 +62,11 @@ pub fn entry_on(line: &[u8]) -> Option<Entry>
     let start = text::skip_blanks(line, 0);
     let letter = text::word(line, start);
     let rest = &line[start + letter.len()..];
-    if keywords::same_word(letter, b"p") {
+    if is_letter(letter, b"p") {
         problem_on(rest)
-    } else if keywords::same_word(letter, b"n") {
+    } else if is_letter(letter, b"n") {
         source_on(rest)
-    } else if keywords::same_word(letter, b"a") {
+    } else if is_letter(letter, b"a") {
         arc_on(rest)
     } else {
         None

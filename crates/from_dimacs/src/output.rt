@@ -12,7 +12,8 @@ pub fn from_dimacs_output(crosses: &[u8], out: &mut [u8]) -> usize
     ensures inside { result ≤ length out.new }
     ensures composed { Composed whole_text_room (from_dimacs_output crosses.now) out.old out.new result }
 {
-    if out.len() != LONGEST_TEXT {
+    let other = out.len() != LONGEST_TEXT;
+    if other {
         filling::fill(out, 0);
         return 0;
     }

@@ -42,8 +42,7 @@ pub fn put_graph(
     requires ordered { Ordered (graph_of s row.now column.now weight.now) order.now }
     ensures { Written longest_text (graph_text (graph_in_order (graph_of s row.now column.now weight.now) order.now)) out.new result }
 {
-    let mut w = Writer::cleared(out);
-    writer::put_head(&mut w, Field::Integer, s, s.edges);
+    let mut w = writer::put_head(out, Field::Integer, s, s.edges);
     for e in order {
         put_weighted_edge(&mut w, row, column, weight, *e as usize);
     }

@@ -4,6 +4,7 @@ use Prim.Native.Nat.{ℕ, ◌+◌}
 use mathlib.Core.Path.{◌≡◌, refl, sym, ap, ◌∙◌}
 use mathlib.Core.Bool.{Bool, true, false, cond, ◌||◌}
 use mathlib.Core.List.{List, [], ◌∷◌}
+use native.Mathlib.Omega.{arith}
 use lib.ListN.{drop}
 use Rattle.graph.specs.declared.Fault.{Fault}
 use Rattle.graph.specs.declared.Fault.TheVariants.{Header, SizeLine, LaterLine}
@@ -14,9 +15,13 @@ use Rattle.layout.specs.Lines.{Step, goes, stops, State, start, sizing, reading,
 use Rattle.text.specs.declared.Cursor.{Cursor}
 use Rattle.text.specs.declared.Line.{Line}
 use Rattle.lines.specs.declared.Missing.{Missing}
-use Rattle.lines.specs.Found.{LineFound, at, long, next_data, part, found_says, Inside, FoundInside, FoundAs}
+use Rattle.lines.specs.Found.{LineFound, at, long, next_data, part, found_says, Reached, Inside, FoundInside, FoundAs}
 use Rattle.lines.specs.Walk.{Met, line, done, refused, opens, follows, header_met, size_met, later_met, opened_of, opened_says}
 use Rattle.lines.specs.Walk.{OpenedInside, OpenedAs, LaterAs, origin, Walk}
+
+-- The walk begins at the origin.
+pub origin-reached : (s : List ℕ) → Reached s origin
+origin-reached s = record { behind = omega arith; reach = omega arith }
 
 -- What the functions that look for a line answer, by what was found.
 pub opened_as : {s : List ℕ} {c : Cursor} {w : LineFound} (o : Result Line Missing) → FoundAs s c w o → (f : Fault) → OpenedAs s c (opens f w) (opened_of f o)

@@ -50,7 +50,8 @@ fn find_line<F: Fn(&[u8]) -> bool>(s: &[u8], from: Cursor, skips: F) -> Result<L
     let mut c = from;
     while let Some(line) = c.next_line(s) {
         let bytes = &s[line.start..line.end];
-        if bytes.len() > LONGEST_LINE {
+        let long = bytes.len() > LONGEST_LINE;
+        if long {
             return Err(Missing::Long(line.next.line as u64));
         }
         if !skips(bytes) {

@@ -3,6 +3,7 @@
 
 ghost use Rattle.std.specs.Prelude.{◌+◌, ◌-◌, ◌≤◌, ◌<◌, ◌≡◌, ◌++◌, leb, length, get_or, pos};
 ghost use Rattle.std.specs.Int.Signed.{le_z};
+ghost use Rattle.integers.specs.Integer.{between};
 ghost use Rattle.graph.specs.Limits.{most_vertices};
 ghost use Rattle.graph.specs.Refusal.{lowest};
 ghost use Rattle.graph.specs.Graph.{ends_in_range, weight_in_range, bound_in_range, bound_is_one, price_in_range};
@@ -33,15 +34,25 @@ pub fn lowest_not_one(bound: &[i32]) -> Option<usize>
     bound.iter().position(|x| *x != 1)
 }
 
+// The lowest number that is not from low to high.
+fn lowest_outside(values: &[i32], low: i32, high: i32) -> Option<usize>
+    ensures { result ≡ lowest (length values.now) (λ k. between low high (get_or values.now k (pos 0))) }
+{
+    values.iter().position(move |x| !(low..=high).contains(x))
+}
+
 // The lowest price that is out of range, by its position in the prices of vertices, then of edges, then of odd sets.
 pub fn lowest_price(vertex_price: &[i32], edge_price: &[i32], set_price: &[i32]) -> Option<usize>
     ensures { result ≡ lowest (length (vertex_price.now ++ (edge_price.now ++ set_price.now))) (λ k. price_in_range (get_or (vertex_price.now ++ (edge_price.now ++ set_price.now)) k (pos 0))) }
 {
-    vertex_price
-        .iter()
-        .chain(edge_price)
-        .chain(set_price)
-        .position(|x| !(0..=GREATEST_PRICE).contains(x))
+    if let Some(k) = lowest_outside(vertex_price, 0, GREATEST_PRICE) {
+        return Some(k);
+    }
+    if let Some(k) = lowest_outside(edge_price, 0, GREATEST_PRICE) {
+        return Some(vertex_price.len() + k);
+    }
+    let k = lowest_outside(set_price, 0, GREATEST_PRICE)?;
+    Some(vertex_price.len() + edge_price.len() + k)
 }
 
 // The lowest edge whose mark is neither 0 nor 1.

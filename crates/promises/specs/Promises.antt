@@ -62,7 +62,7 @@ pub record Listed : Type 0 where
   pub numbers : map number_of faults ≡ refusal_numbers
   pub apart : (f h : Fault) → number_of f ≡ number_of h → f ≡ h
 
--- A call refuses with this number of the table at this place. Its answer says the same, by its contract (layout, specs/Answers.antt, and dual).
+-- A call refuses with this number of the table at this place. Its result says the same: by its contract it is what the call yields.
 abbrev pub Refuses : {A : Type 0} → Outcome A → ℕ → ℕ → Type 0
 Refuses o number place = told o ≡ refused_with number place
 

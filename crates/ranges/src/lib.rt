@@ -29,7 +29,7 @@ pub fn sizes_in_range(s: Shape) -> bool
 pub fn ends_in_range(s: Shape, r: u32, c: u32) -> bool
     ensures { result ≡ ends_in_range s.kind s.rows s.columns r c }
 {
-    let inside = (1..=s.rows).contains(&r) && (1..=s.columns).contains(&c);
+    let inside = (1 <= r && r <= s.rows) && (1 <= c && c <= s.columns);
     match s.kind {
         Kind::Bipartite => inside,
         Kind::General => inside && c < r,

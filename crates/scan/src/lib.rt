@@ -13,7 +13,6 @@ ghost use Rattle.scan.specs.Scan.{settled_at, Spanned, list_start, list_stop, Sc
 use graph::{MOST_VERTICES, Shape};
 use method::{MOST_LISTED, State, Table};
 use reach::Front;
-use std::ops::Range;
 
 // The front once this vertex is settled, at this distance.
 pub fn settled(f: Front, vertex: u32, distance: u32) -> Front
@@ -26,15 +25,25 @@ pub fn settled(f: Front, vertex: u32, distance: u32) -> Front
     }
 }
 
+// The places of a list: from start to before stop.
+#[derive(Clone, Copy, Debug, PartialEq, Eq)]
+pub struct Span {
+    pub start: u32,
+    pub stop: u32,
+}
+
 // The places where the chosen edges of vertex u are listed, if it is a column vertex; the list of a row vertex is empty.
-pub fn list_of(rows: u32, table: &Table, used: &[u32; MOST_VERTICES], u: usize) -> Range<u32>
+pub fn list_of(rows: u32, table: &Table, used: &[u32; MOST_VERTICES], u: usize) -> Span
     requires { Spanned rows (starts table.now) (entries used.now) most_edges u }
-    ensures { (result.start ≡ list_start rows (starts table.now) u) × (result.end ≡ list_stop rows (starts table.now) (entries used.now) u) }
+    ensures { (result.start ≡ list_start rows (starts table.now) u) × (result.stop ≡ list_stop rows (starts table.now) (entries used.now) u) }
 {
     if u < rows as usize {
-        0..0
+        Span { start: 0, stop: 0 }
     } else {
-        table.start[u]..table.start[u] + used[u]
+        Span {
+            start: table.start[u],
+            stop: table.start[u] + used[u],
+        }
     }
 }
 
@@ -62,7 +71,7 @@ pub fn scan_column(
     let d = first.distance;
     let places = list_of(s.rows, table, &state.used, u);
     let mut f = first;
-    for k in places.start..places.end {
+    for k in places.start..places.stop {
         let e = integers::natural_at(list, k as usize);
         let at = e as usize;
         let w = method::ends_at(s, row, column, at).first;

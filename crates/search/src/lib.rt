@@ -113,7 +113,8 @@ fn find_end(
         count += 1;
         f = scan::settled(f, v, distance[v as usize]);
     };
-    if f.goal == FAR {
+    let none = f.goal == FAR;
+    if none {
         return None;
     }
     dual_step::move_prices(&mut state.price, s.rows, order, &distance, count, f.goal);
@@ -171,7 +172,7 @@ pub fn search(
         &tree.label,
         root,
         tree.end,
-        places.end,
+        places.stop,
     );
     count_path(&mut state.used, s.rows, root, tree.end);
     true

@@ -80,7 +80,9 @@ impl OddSets<'_> {
         requires e_lt_most_edges { (e < most_edges) × (ends.first < most_vertices) × (ends.second < most_vertices) }
         ensures { result ≡ covers_by (marks_of self.entry) k e ends.first ends.second }
     {
-        self.is_marked(k, e) || self.is_inside(k, ends.first) && self.is_inside(k, ends.second)
+        let marked = self.is_marked(k, e);
+        let inside = self.ends_inside(k, ends);
+        marked || inside == 2
     }
 
     // Whether edge e is not marked, or has exactly one end inside.

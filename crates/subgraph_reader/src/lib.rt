@@ -74,11 +74,8 @@ fn edge_on(
         return Err(Fault::Ends);
     }
     let e = cells::find_edge(cells, r, c).ok_or(Fault::Disagreement)?;
-    if chosen[e] == 0 {
-        Ok(e)
-    } else {
-        Err(Fault::SameEnds)
-    }
+    let free = chosen[e] == 0;
+    if free { Ok(e) } else { Err(Fault::SameEnds) }
 }
 
 // The lines after the size line, of which `count` name an edge, into `chosen`. Each edge is looked up in a table of cells.

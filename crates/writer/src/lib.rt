@@ -1,7 +1,7 @@
 // Writes the head of a text of coordinates, and a subgraph (plan) as a Matrix Market text.
 #![tactic(auto)]
 
-ghost use Rattle.std.specs.Prelude.{◌≡◌, List, [], ◌∷◌, ◌+◌, ◌≤◌, ℤ, length};
+ghost use Rattle.std.specs.Prelude.{◌≡◌, List, [], ◌∷◌, ◌+◌, ◌≤◌, ℤ, length, replicate};
 ghost use Rattle.integers.specs.Sum.{sum};
 ghost use Rattle.graph.specs.Limits.{most_edges, subgraph_bytes};
 ghost use Rattle.graph.specs.Graph.{graph_of};
@@ -10,6 +10,7 @@ ghost use Rattle.graph.specs.Passed.{Sound, MarksHold};
 ghost use Rattle.layout.specs.Text.{decimal, spaced, unlines};
 ghost use Rattle.layout.specs.GraphText.{header_text};
 ghost use Rattle.layout.specs.SubgraphText.{subgraph_text};
+ghost use Rattle.digits.specs.Puts.{Puts};
 ghost use Rattle.digits.specs.Appends.{Appends};
 ghost use Rattle.writer.specs.Written.{Written, head_lines, marked_lines, left_by};
 
@@ -67,13 +68,17 @@ fn put_header(w: &mut Writer, field: Field, kind: Kind)
     }
 }
 
-// Writes the header line of a field and the size line.
-pub fn put_head(w: &mut Writer, field: Field, s: Shape, count: u32)
-    requires { w.old.at + 128 ≤ length w.old.out.now }
-    ensures { Appends w.old (unlines (head_lines field s count)) w.new }
+// Clears `out`, and writes the header line of a field and the size line at its start. The result writes on after them.
+pub fn put_head<'a>(out: &'a mut [u8], field: Field, s: Shape, count: u32) -> Writer<'a>
+    requires { 128 ≤ length out.old }
+    ensures same { result.out.ghost_name ≡ out.entry.ghost_name }
+    ensures long { length result.out.now ≡ length out.old }
+    ensures written { Puts (replicate (length out.old) 0) 0 (unlines (head_lines field s count)) result.out.now result.at }
 {
-    put_header(w, field, s.kind);
-    put_sizes(w, s.rows, s.columns, count);
+    let mut w = Writer::cleared(out);
+    put_header(&mut w, field, s.kind);
+    put_sizes(&mut w, s.rows, s.columns, count);
+    w
 }
 
 // Writes the line of an edge if its mark is 1.
@@ -81,7 +86,8 @@ fn put_chosen_edge(w: &mut Writer, row: u32, column: u32, mark: u8)
     requires { w.old.at + 32 ≤ length w.old.out.now }
     ensures { Appends w.old (unlines (marked_lines row column mark)) w.new }
 {
-    if mark == 1 {
+    let chosen = mark == 1;
+    if chosen {
         put_pair(w, row, column);
     }
 }
@@ -105,8 +111,7 @@ pub fn put_subgraph(out: &mut [u8], s: Shape, row: &[u32], column: &[u32], chose
     requires sound { Sound s row.now column.now × MarksHold s.edges chosen.now }
     ensures { (w : List ℤ) → Written subgraph_bytes (subgraph_text (graph_of s row.now column.now w) chosen.now) out.new result }
 {
-    let mut w = Writer::cleared(out);
-    put_head(&mut w, Field::Pattern, s, count_chosen(chosen));
+    let mut w = put_head(out, Field::Pattern, s, count_chosen(chosen));
     for e in 0..row.len() {
         put_chosen_edge(&mut w, row[e], column[e], chosen[e]);
     }

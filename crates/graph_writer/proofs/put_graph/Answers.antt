@@ -1,13 +1,14 @@
-use Rattle.std.proofs.Common.{rules, arith, ◌≡◌, ◌∙◌, length}
+use Rattle.std.proofs.Common.{rules, arith, refl, ◌≡◌, ◌∙◌, length}
+use lib.ListN.{length-replicate}
 use Rattle.graph_writer.proofs.Lines.{edges-start, edges_more, edges-end, edge_within, line-room, head-room, graph_appends}
-use Rattle.writer.proofs.Zeros.{zeros-long, whole}
+use Rattle.writer.proofs.Zeros.{begun, whole}
 use Rattle.graph_writer.proofs.put_graph.Goals as goal
 
 pub loop-e-init : goal.loop-e-init
 loop-e-init c =
-    let k = c.cleared-w.ensures in
-    edges-start c.requires.ordered c.put_head.new.w
-    (head-room c.requires.ordered k.start (zeros-long (length c.args.out.now) k.zeros ∙ c.requires.out_len) c.put_head.ensures)
+    let k = c.put_head-w.ensures in
+    edges-start c.requires.ordered c.put_head-w.result
+    (head-room c.requires.ordered refl (length-replicate (length c.args.out.now) 0 ∙ c.requires.out_len) (begun c.put_head-w.result k.written k.long))
 
 pub put_weighted_edge-requires : goal.put_weighted_edge-requires
 put_weighted_edge-requires c =
@@ -20,9 +21,9 @@ loop-e-preserved c = edges_more c.requires.ordered c.loop-e.e-index c.loop-e-tes
 
 pub returns : goal.returns
 returns c =
-    let k = c.cleared-w.ensures in
+    let k = c.put_head-w.ensures in
     let all : c.loop-e.e-index ≡ length c.args.order.now = omega arith in
     let O = c.requires.ordered in
-    whole k.zeros k.start c.requires.out_len
-    (graph_appends O k.start (zeros-long (length c.args.out.now) k.zeros ∙ c.requires.out_len) c.put_head.ensures (edges-end O c.loop-e.invariant all))
+    whole refl refl c.requires.out_len
+    (graph_appends O refl (length-replicate (length c.args.out.now) 0 ∙ c.requires.out_len) (begun c.put_head-w.result k.written k.long) (edges-end O c.loop-e.invariant all))
     (search rules)

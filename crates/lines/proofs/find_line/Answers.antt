@@ -12,14 +12,14 @@ slice_bounds-bytes-end g c =
     let e : c.in-Some.line.end ≤ length c.args.s.now = k.inside in
     search rules
 
-pub returns-then-bytes-gt-LONGEST_LINE : goal.returns-then-bytes-gt-LONGEST_LINE
-returns-then-bytes-gt-LONGEST_LINE g c = λ skip t.
-    search_long _ _ _ c.loop-line.invariant.came _ (lined _ _ _ c.in-Some.ensures) skip (c.loop-line.invariant.same skip t) c.if-bytes-gt-LONGEST_LINE.true
+pub returns-then-long : goal.returns-then-long
+returns-then-long g c = λ skip t.
+    search_long _ _ _ c.loop-line.invariant.came _ (lined _ _ _ c.in-Some.ensures) skip (c.loop-line.invariant.same skip t) c.if-long.true
 
 pub returns-then-not-skips : goal.returns-then-not-skips
 returns-then-not-skips g c = λ skip t.
     let told : FnReturnsAt g.F.Fn c.args.skips (part c.args.s.now c.in-Some.line.start c.in-Some.line.end) c.skips.result = search of_calls in
-    search_finds _ _ _ c.loop-line.invariant.came _ (lined _ _ _ c.in-Some.ensures) skip (c.loop-line.invariant.same skip t) c.if-bytes-gt-LONGEST_LINE.false
+    search_finds _ _ _ c.loop-line.invariant.came _ (lined _ _ _ c.in-Some.ensures) skip (c.loop-line.invariant.same skip t) c.if-long.false
     (sym (t _ _ told) ∙ c.if-not-skips.true)
 
 pub loop-line-preserved : goal.loop-line-preserved
@@ -27,7 +27,7 @@ loop-line-preserved g c = record {
   came = came_on _ _ _ c.loop-line.invariant.came _ (lined _ _ _ c.in-Some.ensures);
   same = λ skip t.
       let told : FnReturnsAt g.F.Fn c.args.skips (part c.args.s.now c.in-Some.line.start c.in-Some.line.end) c.skips.result = search of_calls in
-      search_more _ _ _ c.loop-line.invariant.came _ (lined _ _ _ c.in-Some.ensures) skip (c.loop-line.invariant.same skip t) c.if-bytes-gt-LONGEST_LINE.false
+      search_more _ _ _ c.loop-line.invariant.came _ (lined _ _ _ c.in-Some.ensures) skip (c.loop-line.invariant.same skip t) c.if-long.false
       (sym (t _ _ told) ∙ c.if-not-skips.false);
 }
 

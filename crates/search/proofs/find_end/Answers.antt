@@ -123,20 +123,20 @@ left_at c =
           Growth.left_as w.order-is w.f-is w.distance-is (ap (λ (t : Tree). t.label) w.tree-is) w.end-is (Growth.ends_last c.requires.given.net r w.nearest-at.ensures all w.if-at-f.true)
     ]
 
-pub returns-then-f-eq-FAR-clause-finds : goal.returns-then-f-eq-FAR-clause-finds
-returns-then-f-eq-FAR-clause-finds c =
+pub returns-then-none-clause-finds : goal.returns-then-none-clause-finds
+returns-then-none-clause-finds c =
     let W = ways c.requires.given c.requires.known c.requires.rooted in
-    let left = left_at (goal.at.returns-then-f-eq-FAR-clause-finds c).Left-loop-k in
-    Growth.finds-none (Growth.stuck c.requires.given.net c.requires.known.between.good c.requires.rooted.near W.exits left.leaving c.if-f-eq-FAR.true)
+    let left = left_at (goal.at.returns-then-none-clause-finds c).Left-loop-k in
+    Growth.finds-none (Growth.stuck c.requires.given.net c.requires.known.between.good c.requires.rooted.near W.exits left.leaving c.if-none.true)
 
 pub move_prices-requires : goal.move_prices-requires
 move_prices-requires c =
     let W = ways c.requires.given c.requires.known c.requires.rooted in
     let left = left_at (goal.at.move_prices-requires c).Left-loop-k in
-    record { movable = Growth.movable c.requires.given.net c.requires.known.between.good c.requires.rooted.near W.exits left.leaving c.if-f-eq-FAR.false }
+    record { movable = Growth.movable c.requires.given.net c.requires.known.between.good c.requires.rooted.near W.exits left.leaving c.if-none.false }
 
 pub returns-clause-finds : goal.returns-clause-finds
 returns-clause-finds c =
     let W = ways c.requires.given c.requires.known c.requires.rooted in
     let left = left_at (goal.at.returns-clause-finds c).Left-loop-k in
-    Growth.finds-end _ (Growth.ended c.requires.given.net c.requires.known.between.good c.requires.rooted.near W.exits left.leaving c.if-f-eq-FAR.false c.move_prices.ensures)
+    Growth.finds-end _ (Growth.ended c.requires.given.net c.requires.known.between.good c.requires.rooted.near W.exits left.leaving c.if-none.false c.move_prices.ensures)

@@ -1,5 +1,5 @@
 -- The edge that is found is the graph's.
-use Rattle.std.proofs.Common.{◌<◌, arith, sym, ◌∙◌}
+use Rattle.std.proofs.Common.{◌≡◌, ◌<◌, arith, sym, ◌∙◌, get_or}
 use Rattle.std.proofs.lemmas.Grind.{common_steps}
 use Rattle.subgraph_reader.proofs.OnLine.{edge_found, edge-among}
 use Rattle.subgraph_reader.proofs.edge_on.Goals as goal
@@ -14,14 +14,15 @@ bounds-chosen-e c =
     edge-among c.requires.celled c.in_ok-r.r c.in_ok-r.c (sym c.ends_in_range.ensures ∙ c.if-not-ends_in_range.false) c.find_edge.ensures (grind arith) in
     omega arith
 
-pub returns-then-chosen-e-eq0-clause-says : goal.returns-then-chosen-e-eq0-clause-says
-returns-then-chosen-e-eq0-clause-says c = λ t k i.
-    let e = edge_found t c.in_ok-r.r c.in_ok-r.c (sym c.ends_in_range.ensures ∙ c.if-not-ends_in_range.false) c.find_edge.ensures in grind (arith, common_steps)
+pub returns-then-free-clause-says : goal.returns-then-free-clause-says
+returns-then-free-clause-says c = λ t k i.
+    let e = edge_found t c.in_ok-r.r c.in_ok-r.c (sym c.ends_in_range.ensures ∙ c.if-not-ends_in_range.false) c.find_edge.ensures in
+    let f : get_or c.args.chosen.now c.in_ok-e.e 0 ≡ 0 = c.if-free.true in grind (arith, common_steps)
 
-pub returns-then-chosen-e-eq0-clause-inside : goal.returns-then-chosen-e-eq0-clause-inside
-returns-then-chosen-e-eq0-clause-inside c =
+pub returns-then-free-clause-inside : goal.returns-then-free-clause-inside
+returns-then-free-clause-inside c =
     edge-among c.requires.celled c.in_ok-r.r c.in_ok-r.c (sym c.ends_in_range.ensures ∙ c.if-not-ends_in_range.false) c.find_edge.ensures (grind arith)
 
-pub returns-else-chosen-e-eq0-clause-says : goal.returns-else-chosen-e-eq0-clause-says
-returns-else-chosen-e-eq0-clause-says c = λ t k i.
+pub returns-else-free-clause-says : goal.returns-else-free-clause-says
+returns-else-free-clause-says c = λ t k i.
     let e = edge_found t c.in_ok-r.r c.in_ok-r.c (sym c.ends_in_range.ensures ∙ c.if-not-ends_in_range.false) c.find_edge.ensures in grind (arith, common_steps)

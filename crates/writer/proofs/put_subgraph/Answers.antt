@@ -1,14 +1,15 @@
-use Rattle.std.proofs.Common.{rules, arith, ◌∙◌, ◌≡◌, length}
+use Rattle.std.proofs.Common.{rules, arith, refl, ◌∙◌, ◌≡◌, length}
+use lib.ListN.{length-replicate}
 use Rattle.writer.proofs.Subgraph.{edges-start, edges_more, edges-end, head-room, subgraph_appends}
-use Rattle.writer.proofs.Zeros.{zeros-long, whole}
+use Rattle.writer.proofs.Zeros.{begun, whole}
 use Rattle.writer.proofs.put_subgraph.Goals as goal
 
 pub loop-e-init : goal.loop-e-init
 loop-e-init c =
     let q = c.requires.sound in
-    let k = c.cleared-w.ensures in
-    edges-start q.0 q.1 c.put_head.new.w
-    (head-room q.0 q.1 c.count_chosen.ensures k.start c.put_head.ensures (zeros-long (length c.args.out.now) k.zeros ∙ c.requires.out_len))
+    let k = c.put_head-w.ensures in
+    edges-start q.0 q.1 c.put_head-w.result
+    (head-room q.0 q.1 c.count_chosen.ensures refl (begun c.put_head-w.result k.written k.long) (length-replicate (length c.args.out.now) 0 ∙ c.requires.out_len))
 
 pub loop-e-preserved : goal.loop-e-preserved
 loop-e-preserved c =
@@ -18,9 +19,9 @@ loop-e-preserved c =
 pub returns : goal.returns
 returns c =
     let q = c.requires.sound in
-    let k = c.cleared-w.ensures in
+    let k = c.put_head-w.ensures in
     let all : c.loop-e.e ≡ length c.args.row.now = omega arith in
-    λ ws. whole k.zeros k.start c.requires.out_len
-    (subgraph_appends q.0 q.1 c.count_chosen.ensures k.start c.put_head.ensures (zeros-long (length c.args.out.now) k.zeros ∙ c.requires.out_len) ws
+    λ ws. whole refl refl c.requires.out_len
+    (subgraph_appends q.0 q.1 c.count_chosen.ensures refl (begun c.put_head-w.result k.written k.long) (length-replicate (length c.args.out.now) 0 ∙ c.requires.out_len) ws
     (edges-end q.0 q.1 c.loop-e.invariant all ws))
     (search rules)

@@ -1,4 +1,4 @@
-use Rattle.std.proofs.Common.{sym, ◌∙◌}
+use Rattle.std.proofs.Common.{arith, sym, ◌∙◌}
 use Rattle.text.proofs.Shapes.{took, spoilt, one-bad, one_last}
 use Rattle.text.proofs.Cursor.last_number.Goals as goal
 
@@ -6,7 +6,7 @@ pub returns-in_err-value : goal.returns-in_err-value
 returns-in_err-value g c = c.from_residual.ensures ∙ sym (one-bad _ _ (spoilt _ _ c.args.self c.in_err-value.ensures))
 
 pub no_words-requires : goal.no_words-requires
-no_words-requires g c = (took _ _ c.args.self (g.met.T.Number.empty _) c.requires _ _ c.in_ok-value.ensures).inside
+no_words-requires g c = omega (arith, (took _ _ c.args.self (g.met.T.Number.empty _) c.requires _ _ c.in_ok-value.ensures).inside)
 
 pub returns-then-no_words : goal.returns-then-no_words
 returns-then-no_words g c =
